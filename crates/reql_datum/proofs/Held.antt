@@ -1,0 +1,84 @@
+-- The members that an object holds, beside the map that it is seen as.
+use Rattle.std.proofs.Common.{◌≡◌, ℕ, zero, suc, ◌<◌, List, [], ◌∷◌, length, get_or, set, map, Some, Result, IfOk, IfErr, refl, sym, ap, ◌∙◌, arith, ◌-◌, slice_get, Ordering, Less, Equal, Greater, true}
+use Rattle.std.specs.List.{insert, remove}
+use Rattle.std.specs.List.Sorted.{IsSearchInRange, IsBinarySearchResult, IsStrictlySortedBy}
+use Rattle.std.specs.Map.{keys_of}
+use Rattle.std.specs.Ordering.{is_lt}
+use Rattle.std.proofs.lemmas.Cmp.{nat_list_cmp_total}
+use Rattle.std.proofs.lemmas.List.{get_or-map, map-set}
+use Rattle.reql_datum.specs.Plain.{Plain}
+use Rattle.reql_datum.specs.View.{plain, member}
+use Rattle.reql_datum.specs.Members.{text_order, AreRising, find, put, without, IsHit, IsGap}
+use Rattle.reql_datum.proofs.Members.{below_flip, above_flip, searched, find_hit, set_hit, insert_gap, remove_hit}
+use Rattle.reql_datum.specs.declared.datum.Datum.{Datum}
+use Rattle.reql_datum.specs.declared.datum.Field.{Field}
+
+names_seen : (fs : List Field) → map (λ (f : Field). f.name) fs ≡ keys_of (map member fs)
+names_seen [] = refl
+names_seen (f ∷ fs) = ap (λ t. f.name ∷ t) (names_seen fs)
+
+pub place_found : (fs : List Field) (ms : List (List ℕ × Plain)) (k : List ℕ) (r : Result ℕ ℕ) → map member fs ≡ ms → AreRising (map member fs) → IsSearchInRange r (length fs)
+    → IsBinarySearchResult (λ (f : Field). text_order f.name k) fs r → record { found : IfOk r (IsHit (keys_of ms) k); absent : IfErr r (IsGap (keys_of ms) k) }
+place_found fs ms k r is up lt by =
+    rw (← is, ← names_seen fs) (searched (λ (f : Field). f.name) k fs (rw (names_seen fs) up) r lt by)
+
+pub find_at : (fs : List Field) (ms : List (List ℕ × Plain)) (k : List ℕ) (i : ℕ) (f : Field) → map member fs ≡ ms → IsHit (keys_of ms) k i → i < length fs → f ≡ get_or fs i f
+    → Some (plain f.value) ≡ find k ms
+find_at fs ms k i f is hit lt here =
+    let e = find_hit ms k i (member f) hit in
+    let at : get_or ms i (member f) ≡ member f = rw (← is) (get_or-map member fs i f (member f) lt ∙ ap member (sym here)) in
+    sym (rw at at e)
+
+module _ {X Y : Type 0} (f : X → Y) where
+  map-insert : (xs : List X) (i : ℕ) (x : X) → map f (insert xs i x) ≡ insert (map f xs) i (f x)
+  map-insert [] zero x = refl
+  map-insert [] (suc i) x = refl
+  map-insert (y ∷ ys) zero x = refl
+  map-insert (y ∷ ys) (suc i) x = ap (λ t. f y ∷ t) (map-insert ys i x)
+
+  map-remove : (xs : List X) (i : ℕ) → map f (remove xs i) ≡ remove (map f xs) i
+  map-remove [] zero = refl
+  map-remove [] (suc i) = refl
+  map-remove (y ∷ ys) zero = refl
+  map-remove (y ∷ ys) (suc i) = ap (λ t. f y ∷ t) (map-remove ys i)
+
+-- what stands after a value is written over, a member comes in, or one goes
+pub held_set : (fs : List Field) (ms : List (List ℕ × Plain)) (k : List ℕ) (i : ℕ) (f : Field) (v : Datum) → map member fs ≡ ms → IsHit (keys_of ms) k i → i < length fs → f ≡ get_or fs i f
+    → map member (set fs i (record { name = f.name; value = v })) ≡ put k (plain v) ms
+held_set fs ms k i f v is hit lt here =
+    let at : get_or ms i (member f) ≡ member f = rw (← is) (get_or-map member fs i f (member f) lt ∙ ap member (sym here)) in
+    let name : (get_or ms i (member f)).0 ≡ f.name = ap (λ (m : List ℕ × Plain). m.0) at in
+    let e : set ms i (f.name, plain v) ≡ put k (plain v) ms = rw name at (set_hit ms k (plain v) i (member f) hit) in
+    map-set member fs i (record { name = f.name; value = v }) ∙ rw is e
+
+pub held_insert : (fs : List Field) (ms : List (List ℕ × Plain)) (k : List ℕ) (v : Datum) (i : ℕ) → map member fs ≡ ms → IsGap (keys_of ms) k i
+    → map member (insert fs i (record { name = k; value = v })) ≡ put k (plain v) ms
+held_insert fs ms k v i is gap = map-insert member fs i (record { name = k; value = v }) ∙ rw is (insert_gap ms k (plain v) i gap)
+
+pub held_remove : (fs : List Field) (ms : List (List ℕ × Plain)) (k : List ℕ) (i : ℕ) → map member fs ≡ ms → IsHit (keys_of ms) k i → map member (remove fs i) ≡ without k ms
+held_remove fs ms k i is hit = map-remove member fs i ∙ rw is (remove_hit ms k i hit)
+
+some_name : (f g : Field) → Some f ≡ Some g → f.name ≡ g.name
+some_name f g is = cc
+
+pub is_less : (o : Ordering) → true ≡ is_lt o → o ≡ Less
+is_less Less h = refl
+is_less Equal h = cc
+is_less Greater h = cc
+
+-- a name above the last one would stand at the end
+gap_after : (fs : List Field) (k : List ℕ) (f : Field) (i : ℕ) → AreRising (map member fs) → suc i ≡ length fs → Some f ≡ slice_get fs i → text_order f.name k ≡ Less → IsGap (keys_of (map member fs)) k (length fs)
+unfolding IsStrictlySortedBy
+gap_after [] k f i up at is h = tt
+gap_after (g ∷ []) k f zero up at is h = (below_flip k g.name (rw (some_name f g is) at h), tt)
+gap_after (g ∷ []) k f (suc i) up at is h = absurd (omega arith)
+gap_after (g ∷ e ∷ es) k f zero up at is h = absurd (omega arith)
+gap_after (g ∷ e ∷ es) k f (suc i) up at is h =
+    let rest = gap_after (e ∷ es) k f i up.1 (omega arith) is h in
+    (below_flip k g.name (nat_list_cmp_total.trans g.name e.name k up.0.0 (above_flip e.name k rest.0)), rest)
+
+pub gap_last : (fs : List Field) (k : List ℕ) (f : Field) → AreRising (map member fs) → Some f ≡ slice_get fs (length fs - 1) → text_order f.name k ≡ Less → IsGap (keys_of (map member fs)) k (length fs)
+gap_last [] k f up is h = tt
+gap_last (g ∷ gs) k f up is h =
+    let e : length (g ∷ gs) - 1 ≡ length gs = omega arith in
+    gap_after (g ∷ gs) k f (length gs) up refl (rw e at is) h

@@ -1,0 +1,56 @@
+// Bytes, seen as their list.
+ghost use Rattle.std.specs.Prelude.{◌≡◌, IfOk};
+ghost use Rattle.reql_datum.specs.Members.{text_order};
+
+use reql_memory::Memory;
+use std::alloc::Global;
+use std::cmp::Ordering;
+use std::marker::Model;
+use std::sync::ArcSlice;
+
+#[derive(Drop)]
+pub struct Blob {
+    bytes: ArcSlice<u8>,
+}
+
+impl Model for Blob {
+    ghost use Rattle.std.specs.Prelude.{ℕ, List};
+    ghost use Rattle.std.specs.Arc.{arc_slice_items};
+
+    ghost Value = { List ℕ };
+
+    ghost view = { λ a. arc_slice_items a.bytes };
+}
+
+impl Blob {
+    pub fn of(alloc: Global, bytes: &[u8]) -> Result<Blob, Memory>
+        ensures { IfOk result (λ b. b ≡ bytes.now) }
+    {
+        match ArcSlice::from_slice(alloc, bytes) {
+            Ok(bytes) => Ok(Blob { bytes }),
+            Err(_) => Err(Memory),
+        }
+    }
+
+    pub fn as_bytes(&self) -> &[u8]
+        ensures { result.now ≡ self.now }
+    {
+        self.bytes.as_slice()
+    }
+
+    pub fn order(&self, bytes: &[u8]) -> Ordering
+        ensures { result ≡ text_order self.now bytes.now }
+    {
+        self.as_bytes().cmp(bytes)
+    }
+
+    // An equal blob that shares the bytes.
+    pub fn copy(&self) -> Result<Blob, Memory>
+        ensures { IfOk result (λ b. b ≡ self.now) }
+    {
+        match self.bytes.clone() {
+            Ok(bytes) => Ok(Blob { bytes }),
+            Err(_) => Err(Memory),
+        }
+    }
+}

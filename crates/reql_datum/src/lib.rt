@@ -1,0 +1,22 @@
+//! Documents: their numbers, texts, lists and maps by name, and the order of them all.
+#![tactic(auto)]
+
+mod blob;
+mod comparing;
+mod datum;
+mod edit;
+mod moment;
+mod name;
+mod shape;
+pub mod shared;
+#[cfg(test)]
+mod tests;
+mod whole;
+
+pub use blob::Blob;
+pub use comparing::{compare, order_laws};
+pub use datum::{Datum, Fields, Items};
+pub use moment::{Moment, zone_laws};
+pub use name::Name;
+pub use reql_memory::{Memory, Refused, Seq};
+pub use whole::{NumFault, Whole};

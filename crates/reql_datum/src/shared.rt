@@ -1,0 +1,96 @@
+// Lists that are shared, and copied where a shared one is written to: calls on the field that holds one.
+ghost use Rattle.std.specs.Prelude.{◌≡◌, [], ◌∷◌, ◌++◌, is_ok, IfOk, IfErr, if◌then◌else◌};
+ghost use Rattle.reql_datum.specs.Shared.{held_items};
+
+use reql_memory::{Memory, Refused};
+use std::alloc::Global;
+use std::sync::Arc;
+
+pub fn shown<T>(held: &Option<Arc<Vec<T>>>) -> &[T]
+    ensures { result.now ≡ held_items held.now }
+{
+    match held {
+        None => &[],
+        Some(list) => list.as_slice(),
+    }
+}
+
+pub fn copied<T>(held: &Option<Arc<Vec<T>>>) -> Result<Option<Arc<Vec<T>>>, Memory>
+    ensures { IfOk result (λ copy. held_items copy ≡ held_items held.now) }
+{
+    match held {
+        None => Ok(None),
+        Some(list) => match Arc::try_clone(list) {
+            Ok(list) => Ok(Some(list)),
+            Err(_) => Err(Memory),
+        },
+    }
+}
+
+fn is_own<T>(held: &Option<Arc<Vec<T>>>) -> bool {
+    match held {
+        None => false,
+        Some(list) => Arc::strong_count(list) == 1,
+    }
+}
+
+// A copy of each item, with room for one more.
+fn copies_of<T: Clone>(alloc: Global, items: &[T]) -> Result<Vec<T>, Memory>
+    requires exact { (x y : T) → T.is_clone x y → y ≡ x }
+    ensures { IfOk result (λ r. r.items ≡ items.now) }
+{
+    let Ok(mut copies) = Vec::with_capacity(alloc, items.len().saturating_add(1)) else {
+        return Err(Memory);
+    };
+    for item in items {
+        let Ok(copied) = item.clone() else {
+            return Err(Memory);
+        };
+        if let Err(_) = copies.push(copied) {
+            return Err(Memory);
+        }
+    }
+    Ok(copies)
+}
+
+// Makes the list one that no other value shares, to write to by `Arc::get_mut`.
+pub fn own<T: Clone>(alloc: Global, held: &mut Option<Arc<Vec<T>>>) -> Result<(), Memory>
+    requires exact { (x y : T) → T.is_clone x y → y ≡ x }
+    ensures { held_items held.new ≡ held_items held.old }
+{
+    if is_own(held) {
+        return Ok(());
+    }
+    let copies = copies_of(alloc, shown(held))?;
+    match Arc::new(alloc, copies) {
+        Ok(list) => {
+            *held = Some(list);
+            Ok(())
+        }
+        Err(_) => Err(Memory),
+    }
+}
+
+pub fn push_on<T: Clone>(
+    alloc: Global,
+    held: &mut Option<Arc<Vec<T>>>,
+    item: T,
+) -> Result<(), Refused<T>>
+    requires exact { (x y : T) → T.is_clone x y → y ≡ x }
+    ensures items { held_items held.new ≡ (if is_ok result then held_items held.old ++ item ∷ [] else held_items held.old) }
+    ensures back { IfErr result (λ refused. refused.back ≡ item) }
+{
+    if let Err(_) = own(alloc, held) {
+        return Err(Refused { back: item });
+    }
+    match held {
+        None => Err(Refused { back: item }),
+        Some(list) => match Arc::get_mut(list) {
+            None => Err(Refused { back: item }),
+            Some(held) => match held.push(item) {
+                Ok(()) => Ok(()),
+                Err(failed) => Err(Refused { back: failed.value }),
+            },
+        },
+    }
+}
