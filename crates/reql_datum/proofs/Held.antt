@@ -9,7 +9,8 @@ use Rattle.std.proofs.lemmas.List.{get_or-map, map-set}
 use Rattle.reql_datum.specs.Plain.{Plain}
 use Rattle.reql_datum.specs.View.{plain, member}
 use Rattle.reql_datum.specs.Members.{text_order, AreRising, find, put, without, IsHit, IsGap}
-use Rattle.reql_datum.proofs.Members.{below_flip, above_flip, searched, find_hit, set_hit, insert_gap, remove_hit}
+use Rattle.reql_datum.proofs.Members.{searched, find_hit, set_hit, insert_gap, remove_hit}
+use Rattle.reql_datum.proofs.Members as members
 use Rattle.reql_datum.specs.declared.datum.Datum.{Datum}
 use Rattle.reql_datum.specs.declared.datum.Field.{Field}
 
@@ -58,27 +59,11 @@ held_insert fs ms k v i is gap = map-insert member fs i (record { name = k; valu
 pub held_remove : (fs : List Field) (ms : List (List ℕ × Plain)) (k : List ℕ) (i : ℕ) → map member fs ≡ ms → IsHit (keys_of ms) k i → map member (remove fs i) ≡ without k ms
 held_remove fs ms k i is hit = map-remove member fs i ∙ rw is (remove_hit ms k i hit)
 
-some_name : (f g : Field) → Some f ≡ Some g → f.name ≡ g.name
-some_name f g is = cc
-
 pub is_less : (o : Ordering) → true ≡ is_lt o → o ≡ Less
 is_less Less h = refl
 is_less Equal h = cc
 is_less Greater h = cc
 
 -- a name above the last one would stand at the end
-gap_after : (fs : List Field) (k : List ℕ) (f : Field) (i : ℕ) → AreRising (map member fs) → suc i ≡ length fs → Some f ≡ slice_get fs i → text_order f.name k ≡ Less → IsGap (keys_of (map member fs)) k (length fs)
-unfolding IsStrictlySortedBy
-gap_after [] k f i up at is h = tt
-gap_after (g ∷ []) k f zero up at is h = (below_flip k g.name (rw (some_name f g is) at h), tt)
-gap_after (g ∷ []) k f (suc i) up at is h = absurd (omega arith)
-gap_after (g ∷ e ∷ es) k f zero up at is h = absurd (omega arith)
-gap_after (g ∷ e ∷ es) k f (suc i) up at is h =
-    let rest = gap_after (e ∷ es) k f i up.1 (omega arith) is h in
-    (below_flip k g.name (nat_list_cmp_total.trans g.name e.name k up.0.0 (above_flip e.name k rest.0)), rest)
-
 pub gap_last : (fs : List Field) (k : List ℕ) (f : Field) → AreRising (map member fs) → Some f ≡ slice_get fs (length fs - 1) → text_order f.name k ≡ Less → IsGap (keys_of (map member fs)) k (length fs)
-gap_last [] k f up is h = tt
-gap_last (g ∷ gs) k f up is h =
-    let e : length (g ∷ gs) - 1 ≡ length gs = omega arith in
-    gap_after (g ∷ gs) k f (length gs) up refl (rw e at is) h
+gap_last fs k f up is h = rw (← names_seen fs) (members.gap_last (λ (g : Field). g.name) k fs f (rw (names_seen fs) up) is h)
