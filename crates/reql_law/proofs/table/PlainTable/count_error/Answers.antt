@@ -1,0 +1,7 @@
+use Rattle.reql_law.proofs.Kept.{keeps_error}
+use Rattle.reql_law.proofs.table.PlainTable.count_error.Goals as goal
+
+pub invariant_of-self-2 : goal.invariant_of-self-2
+invariant_of-self-2 c =
+    rw c.in_default.ensures.items
+    (keeps_error c.self.inside.rows.items c.self.inside.stamp c.self.inside.history.items (record { by = c.args.by; order = c.args.order }) c.args.why c.self.invariant (rw c.self.view_is c.requires))

@@ -1,0 +1,4 @@
+pub mod Write
+pub mod Machine
+pub mod Rows
+pub mod Kept

@@ -1,0 +1,9 @@
+//! Commands, entries and replies of a table; its machine as a definition on plain lists; and the plain table that computes it.
+#![tactic(auto)]
+
+mod command;
+mod judging;
+mod table;
+
+pub use command::{Cmd, Entry, Order, Point, Reply, Said, Summary, WriteCmd};
+pub use table::{PlainTable, Seen};
