@@ -1,0 +1,22 @@
+//! The outside of a session: a link that gives bytes and takes bytes, one in memory, and one over
+//! standard input and output.
+//!
+//! What a link tells of itself is one record, its tape (`specs/Tape.antt`), and each call moves the
+//! tape by one relation. The lemmas of `proofs/Moving.antt` join such moves, and the crates above
+//! use them.
+#![tactic(auto)]
+
+mod link;
+mod memory;
+mod script;
+mod sending;
+mod standard;
+mod stream;
+#[cfg(test)]
+mod tests;
+
+pub use link::{Link, Recv, Sending};
+pub use memory::{MemLink, MemRecord};
+pub use script::LinkStep;
+pub use sending::send_all;
+pub use standard::{StdLink, StdRecord};
