@@ -34,10 +34,10 @@ moves_on a b c h s h' s' i j o o' p q = record {
 pub moves_next : (a b c : Tape) (h s h' s' : List ℕ) (i j : ℕ) → Moves a b h s i a.over → Moves b c h' s' j b.over → Moves a c (h ++ h') (s ++ s') (i + j) a.over
 moves_next a b c h s h' s' i j p q = subst (λ o. Moves a c (h ++ h') (s ++ s') (i + j) o) p.ended (moves_on a b c h s h' s' i j a.over b.over p q)
 
-rest_whole : (p : List ℕ) (k : ℕ) → take (length p - k) (drop k p) ≡ drop k p
+pub rest_whole : (p : List ℕ) (k : ℕ) → take (length p - k) (drop k p) ≡ drop k p
 rest_whole p k = rw (← length-drop k p) (take-length (drop k p))
 
-take_further : (p : List ℕ) (k n : ℕ) → k ≤ length p → take k p ++ take n (drop k p) ≡ take (k + n) p
+pub take_further : (p : List ℕ) (k n : ℕ) → k ≤ length p → take k p ++ take n (drop k p) ≡ take (k + n) p
 take_further p k n h =
     let e : length (take k p) ≡ k = length-take-le k p h in
     sym (ap (λ x. take (k + n) x) (sym (take-append-drop k p)) ∙ subst (λ j. take (j + n) (take k p ++ drop k p) ≡ take k p ++ take n (drop k p)) e (take-append-add (take k p) (drop k p) n))
