@@ -1,0 +1,10 @@
+//! Documents from JSON values and back, and the text of a JSON value.
+#![tactic(auto)]
+
+mod fault;
+mod read;
+mod show;
+
+pub use fault::{JsonFault, ShowFault};
+pub use read::from_value;
+pub use show::{text, to_value};

@@ -1,0 +1,77 @@
+// From a document to a JSON value, and to text.
+ghost use Rattle.std.specs.Prelude.{◌≡◌, ◌≤◌, Some, false, IfOk, IsUtf8};
+ghost use Rattle.json.specs.Print.{print};
+ghost use Rattle.json.specs.Lex.{tokens};
+ghost use Rattle.serde_json.specs.Data.{depth};
+ghost use Rattle.serde_json.specs.Read.{read, max_depth};
+ghost use Rattle.serde_json.specs.View.{view};
+ghost use Rattle.serde_json.specs.Written.{has_float, compact_text, IsInOrder};
+ghost use Rattle.reql_datum.specs.Plain.{items_of, pairs_of};
+ghost use Rattle.reql_datum.specs.View.{plain};
+ghost use Rattle.reql_json.specs.Showing.{Shows, value, values, shown, listed, entered};
+
+use crate::fault::ShowFault;
+use reql_datum::{Datum, Fields, Items, Memory};
+use serde_json::{Map, Value};
+use std::alloc::Global;
+
+/// The JSON value of a document.
+#[cycle(value)]
+pub fn to_value(alloc: Global, d: &Datum) -> Result<Value, ShowFault>
+    ensures { Shows view result (value (plain d.now)) }
+{
+    match d {
+        Datum::Null => Ok(Value::Null),
+        Datum::Bool(b) => Ok(Value::Bool(*b)),
+        Datum::Num(n) => Ok(Value::from(n.get())),
+        Datum::Text(text) => Ok(Value::String(String::from_str(alloc, text.as_str())?)),
+        Datum::List(items) => Ok(Value::Array(array(alloc, items)?)),
+        Datum::Obj(fields) => Ok(Value::Object(map(alloc, fields)?)),
+        Datum::Low | Datum::Binary(_) | Datum::Time(_) | Datum::High => Err(ShowFault::Unshowable),
+    }
+}
+
+#[cycle(value)]
+#[tactic(auto, using(reql_datum::proofs::Walks::walks))]
+fn array(alloc: Global, items: &Items) -> Result<Vec<Value>, ShowFault>
+    ensures { Shows listed result (values (items_of items.now)) }
+{
+    let mut out = Vec::new(alloc);
+    let mut place = 0;
+    while let Some(item) = items.at(place) {
+        let value = to_value(alloc, item)?;
+        out.push(value)?;
+        place += 1;
+    }
+    Ok(out)
+}
+
+#[cycle(value)]
+#[tactic(auto, using(reql_datum::proofs::Walks::walks))]
+fn map(alloc: Global, fields: &Fields) -> Result<Map<String, Value>, ShowFault>
+    ensures { Shows entered result (shown (pairs_of fields.now)) }
+{
+    let mut out = Map::new(alloc);
+    let mut place = 0;
+    while let Some((name, datum)) = fields.at(place) {
+        let key = String::from_str(alloc, name.as_str())?;
+        let value = to_value(alloc, datum)?;
+        drop(out.insert(key, value)?);
+        place += 1;
+    }
+    Ok(out)
+}
+
+/// The text of a JSON value with no space in it, its names in the order of their bytes.
+pub fn text(alloc: Global, v: &Value) -> Result<Vec<u8>, Memory>
+    ensures text { IfOk result (λ b. has_float (view v.now) ≡ false → b.items ≡ compact_text (view v.now)) }
+    ensures compact { IfOk result (λ b. b.items ≡ print (tokens b.items)) }
+    ensures utf8 { IfOk result (λ b. IsUtf8 b.items) }
+    ensures in_order { IfOk result (λ b. IsInOrder b.items (view v.now)) }
+    ensures reads_back { IfOk result (λ b. depth (view v.now) ≤ max_depth → read b.items ≡ Some (view v.now)) }
+{
+    match v.to_vec(alloc) {
+        Ok(bytes) => Ok(bytes),
+        Err(_) => Err(Memory),
+    }
+}
