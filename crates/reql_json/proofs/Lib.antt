@@ -1,3 +1,4 @@
 pub mod Rising
 pub mod Steps
 pub mod Entered
+pub mod Back

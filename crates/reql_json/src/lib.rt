@@ -2,9 +2,11 @@
 #![tactic(auto)]
 
 mod fault;
+mod laws;
 mod read;
 mod show;
 
 pub use fault::{JsonFault, ShowFault};
+pub use laws::json_laws;
 pub use read::from_value;
 pub use show::{text, to_value};

@@ -1,5 +1,5 @@
 // From a document to a JSON value, and to text.
-ghost use Rattle.std.specs.Prelude.{◌≡◌, ◌≤◌, Some, false, IfOk, IsUtf8};
+ghost use Rattle.std.specs.Prelude.{◌≡◌, ◌≤◌, Some, Ok, true, false, IfOk, IsUtf8};
 ghost use Rattle.json.specs.Print.{print};
 ghost use Rattle.json.specs.Lex.{tokens};
 ghost use Rattle.serde_json.specs.Data.{depth};
@@ -8,6 +8,8 @@ ghost use Rattle.serde_json.specs.View.{view};
 ghost use Rattle.serde_json.specs.Written.{has_float, compact_text, IsInOrder};
 ghost use Rattle.reql_datum.specs.Plain.{items_of, pairs_of};
 ghost use Rattle.reql_datum.specs.View.{plain};
+ghost use Rattle.reql_json.specs.Inverse.{in_range, all_in_range, pairs_in_range, has_reserved};
+ghost use Rattle.reql_json.specs.Reading.{document};
 ghost use Rattle.reql_json.specs.Showing.{Shows, value, values, shown, listed, entered};
 
 use crate::fault::ShowFault;
@@ -15,10 +17,24 @@ use reql_datum::{Datum, Fields, Items, Memory};
 use serde_json::{Map, Value};
 use std::alloc::Global;
 
-/// The JSON value of a document.
-#[cycle(value)]
+/// The JSON value of a document, which is Unshowable exactly where an end of the order, bytes or a
+/// time stands in it.
+///
+/// It holds no float, so its text is known, and it reads back as the document where no object has
+/// the name `$reql_type$`.
+#[tactic(auto, using(crate::proofs::Back::shown_no_float, crate::proofs::Back::reads_back))]
 pub fn to_value(alloc: Global, d: &Datum) -> Result<Value, ShowFault>
-    ensures { Shows view result (value (plain d.now)) }
+    ensures value { Shows view result (value (plain d.now)) }
+    ensures no_float { IfOk result (λ v. has_float (view v) ≡ false) }
+    ensures reads_back { IfOk result (λ v. has_reserved (plain d.now) ≡ false → document (view v) ≡ Ok (plain d.now)) }
+{
+    value_of(alloc, d)
+}
+
+#[cycle(value)]
+fn value_of(alloc: Global, d: &Datum) -> Result<Value, ShowFault>
+    ensures value { Shows view result (value (plain d.now)) }
+    ensures in_range { IfOk result (λ _. in_range (plain d.now) ≡ true) }
 {
     match d {
         Datum::Null => Ok(Value::Null),
@@ -34,12 +50,13 @@ pub fn to_value(alloc: Global, d: &Datum) -> Result<Value, ShowFault>
 #[cycle(value)]
 #[tactic(auto, using(reql_datum::proofs::Walks::walks))]
 fn array(alloc: Global, items: &Items) -> Result<Vec<Value>, ShowFault>
-    ensures { Shows listed result (values (items_of items.now)) }
+    ensures value { Shows listed result (values (items_of items.now)) }
+    ensures in_range { IfOk result (λ _. all_in_range (items_of items.now) ≡ true) }
 {
     let mut out = Vec::new(alloc);
     let mut place = 0;
     while let Some(item) = items.at(place) {
-        let value = to_value(alloc, item)?;
+        let value = value_of(alloc, item)?;
         out.push(value)?;
         place += 1;
     }
@@ -49,13 +66,14 @@ fn array(alloc: Global, items: &Items) -> Result<Vec<Value>, ShowFault>
 #[cycle(value)]
 #[tactic(auto, using(reql_datum::proofs::Walks::walks))]
 fn map(alloc: Global, fields: &Fields) -> Result<Map<String, Value>, ShowFault>
-    ensures { Shows entered result (shown (pairs_of fields.now)) }
+    ensures value { Shows entered result (shown (pairs_of fields.now)) }
+    ensures in_range { IfOk result (λ _. pairs_in_range (pairs_of fields.now) ≡ true) }
 {
     let mut out = Map::new(alloc);
     let mut place = 0;
     while let Some((name, datum)) = fields.at(place) {
         let key = String::from_str(alloc, name.as_str())?;
-        let value = to_value(alloc, datum)?;
+        let value = value_of(alloc, datum)?;
         drop(out.insert(key, value)?);
         place += 1;
     }

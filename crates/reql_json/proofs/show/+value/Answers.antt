@@ -1,4 +1,4 @@
-use Rattle.std.proofs.Common.{◌≡◌, ◌+◌, ◌∷◌, ◌++◌, [], drop, Some, option_map, string_bytes, rules, sym, ap, subst, ◌∙◌}
+use Rattle.std.proofs.Common.{◌≡◌, ◌+◌, ◌∷◌, ◌++◌, [], drop, Some, option_map, string_bytes, rules, refl, sym, ap, subst, ◌∙◌}
 use Rattle.std.specs.Map.{keys_of}
 use Rattle.std.specs.List.Sorted.{IsStrictlySortedBy}
 use Rattle.serde_json.specs.Data.{object}
@@ -6,6 +6,7 @@ use Rattle.serde_json.specs.View.{view}
 use Rattle.reql_datum.specs.Members.{text_order}
 use Rattle.reql_datum.specs.Plain.{pairs_of}
 use Rattle.reql_datum.specs.View.{plain}
+use Rattle.reql_json.specs.Inverse.{pairs_in_range}
 use Rattle.reql_json.specs.Showing.{value, shown, entered, entries_seen, members_of}
 use Rattle.reql_json.proofs.Entered.{view_entered, entered_last}
 use Rattle.reql_json.proofs.Rising.{names, put_last, names_step}
@@ -25,12 +26,13 @@ map-loop-name-preserved t c =
     let last = c.in_ok-insert.ensures.entries ∙ put_last string_bytes es c.in_ok-key.key c.in_ok-value.value (keys_of left) (rw named up) in
     let added : entered c.insert.new.self ≡ entered c.loop-name.out ++ (k, d) ∷ [] = ap entries_seen last ∙ entered_last es c.in_ok-key.key c.in_ok-value.value ∙ rw named in
     record {
-      rest = show_step _ (value (plain c.in-Some.datum.now)) (λ v. (k, v)) (shown (pairs_of left)) d (entered c.loop-name.out) (entered c.insert.new.self) known c.in_ok-value.ensures added;
+      rest = show_step _ (value (plain c.in-Some.datum.now)) (λ v. (k, v)) (shown (pairs_of left)) d (entered c.loop-name.out) (entered c.insert.new.self) known c.in_ok-value.ensures.value added;
       names = ap (λ xs. names xs ++ keys_of left) last ∙ names_step string_bytes es c.in_ok-key.key c.in_ok-value.value (keys_of left) ∙ rw named whole;
+      in_range = c.loop-name.invariant.in_range ∙ ap (λ ms. pairs_in_range (pairs_of ms)) c.in-Some.ensures.rest ∙ rw c.in_ok-value.ensures.in_range refl;
     }
 
-pub to_value-returns-in_ok-map-in-Obj : goal.to_value-returns-in_ok-map-in-Obj
-to_value-returns-in_ok-map-in-Obj t c =
+pub value_of-returns-in_ok-map-in-Obj-clause-value : goal.value_of-returns-in_ok-map-in-Obj-clause-value
+value_of-returns-in_ok-map-in-Obj-clause-value t c =
     let m = c.in_ok-map-in-Obj.field-0 in
     let is : value (plain c.args.d.now) ≡ option_map (λ ds. object (members_of ds)) (shown (pairs_of c.in-Obj.fields)) = search rules in
-    is ∙ ap (option_map (λ ds. object (members_of ds))) c.in_ok-map-in-Obj.ensures ∙ ap Some (view_entered m)
+    is ∙ ap (option_map (λ ds. object (members_of ds))) c.in_ok-map-in-Obj.ensures.value ∙ ap Some (view_entered m)

@@ -2,12 +2,13 @@ use Rattle.std.proofs.Common.{◌≡◌, ◌++◌, ◌-◌, length, drop, option
 use Rattle.std.specs.Map.{keys_of}
 use Rattle.reql_datum.specs.Plain.{items_of, pairs_of, weight, list_weight, members_weight}
 use Rattle.reql_datum.specs.View.{plain}
+use Rattle.reql_json.specs.Inverse.{all_in_range, pairs_in_range}
 use Rattle.reql_json.specs.Showing.{values, shown, listed, entered}
 use Rattle.reql_json.proofs.Rising.{names}
 use Rattle.reql_json.proofs.show.+value.Given as goal
 
-abbrev pub decreases-to_value : goal.decreases-to_value
-decreases-to_value l = weight (plain l.d.now)
+abbrev pub decreases-value_of : goal.decreases-value_of
+decreases-value_of l = weight (plain l.d.now)
 
 abbrev pub decreases-array : goal.decreases-array
 decreases-array l = list_weight l.items.now
@@ -16,7 +17,10 @@ abbrev pub decreases-map : goal.decreases-map
 decreases-map l = members_weight l.fields.now
 
 abbrev pub invariant-array-loop-item : goal.invariant-array-loop-item
-invariant-array-loop-item l = values (items_of l.items) ≡ option_map (λ ds. listed l.out ++ ds) (values (items_of (drop l.place l.items)))
+invariant-array-loop-item l = record {
+  rest : values (items_of l.items) ≡ option_map (λ ds. listed l.out ++ ds) (values (items_of (drop l.place l.items)));
+  in_range : all_in_range (items_of l.items) ≡ all_in_range (items_of (drop l.place l.items));
+}
 
 abbrev pub decreases-array-loop-item : goal.decreases-array-loop-item
 decreases-array-loop-item l = length l.items - l.place
@@ -25,6 +29,7 @@ abbrev pub invariant-map-loop-name : goal.invariant-map-loop-name
 invariant-map-loop-name l = record {
   rest : shown (pairs_of l.fields) ≡ option_map (λ ms. entered l.out ++ ms) (shown (pairs_of (drop l.place l.fields)));
   names : names l.out.entries ++ keys_of (drop l.place l.fields) ≡ keys_of l.fields;
+  in_range : pairs_in_range (pairs_of l.fields) ≡ pairs_in_range (pairs_of (drop l.place l.fields));
 }
 
 abbrev pub decreases-map-loop-name : goal.decreases-map-loop-name
