@@ -1,0 +1,5 @@
+//! Worked rows on the calls of the crates of data. It holds tests alone.
+#![tactic(auto)]
+
+#[cfg(test)]
+mod json;
