@@ -1,15 +1,14 @@
-use Rattle.std.proofs.Common.{◌≡◌, ℕ, ◌+◌, ◌-◌, ◌<◌, ◌≤◌, ◌^◌, ltb, nat_lt, Bool, true, false, cond, List, [], ◌∷◌, ◌++◌, length, take, drop, get_or, refl, sym, ap, subst, ◌∙◌, append_assoc, arith, length-append, length-drop, inl, inr, ◌⊎◌}
-use Rattle.std.proofs.lemmas.List.{get_or-take, get_or_past, take-append-le, take-append-drop, length-take-le, length-take, get_or-drop, drop-drop}
+use Rattle.std.proofs.Common.{◌≡◌, ℕ, ◌+◌, ◌-◌, ◌<◌, ◌≤◌, ◌^◌, ltb, Bool, true, false, cond, List, [], ◌∷◌, ◌++◌, length, take, drop, refl, sym, ap, subst, ◌∙◌, append_assoc, arith, length-append, length-drop, inl, inr, ◌⊎◌}
+use Rattle.std.proofs.lemmas.List.{get_or-take, get_or_past, take-append-drop, length-take-le, length-take, get_or-drop, drop-drop}
 use Rattle.std.proofs.Math.Seq.{take-append_seam, drop-append_seam, drop-append-add}
 use Rattle.std.proofs.lemmas.Bool.{ltb-false, ltb-true, le-ltb, lt-ltb, cases_lt}
-use Rattle.std.proofs.lemmas.Bool.Decides.{nat_tests}
 use Rattle.std.proofs.lemmas.Nat.{le_bytes_4, le_bytes_8}
 use Rattle.std.specs.Int.{w32, w64, from_le_bytes}
 use Rattle.std.specs.List.{AllByRecursion}
 use Rattle.byteorder.specs.Endian.{little_bytes, little_number}
 use Rattle.byteorder.specs.Numbers.{little_from-lt, little_from-take, little_number-reads_back}
 use Rattle.reql_wire.specs.declared.frame.Frame.{Frame}
-use Rattle.reql_wire.specs.Frames.{Fits, Frames, NoFrame, Over, header, spelling, spellings, Front, More, Whole, TooLong, front, length_of, token_of, IsBytes}
+use Rattle.reql_wire.specs.Frames.{Fits, NoFrame, Over, header, spelling, spellings, Front, More, Whole, TooLong, front, length_of, token_of, IsBytes}
 
 pub length-header : (token len : ℕ) → length (header token len) ≡ 12
 unfolding header
@@ -53,8 +52,9 @@ parts a b bytes p q =
 
 bytes_take : (n : ℕ) (bytes : List ℕ) → IsBytes bytes → IsBytes (take n bytes)
 bytes_take n bytes each i = elim (cases_lt i n) [
-    inl h ↦ rw (get_or-take n bytes i 0 h) (each i)
-  | inr h ↦ rw (get_or_past (take n bytes) i 0 (omega (arith, length-take n bytes))) (omega arith) ]
+  | inl h ↦ rw (get_or-take n bytes i 0 h) (each i)
+  | inr h ↦ rw (get_or_past (take n bytes) i 0 (omega (arith, length-take n bytes))) (omega arith)
+]
 
 pub bytes_drop : (n : ℕ) (bytes : List ℕ) → IsBytes bytes → IsBytes (drop n bytes)
 bytes_drop n bytes each i = rw (get_or-drop n bytes i 0) (each (n + i))
@@ -81,8 +81,8 @@ header_there : (bytes : List ℕ) → IsBytes bytes → 12 ≤ length bytes → 
 unfolding header
 header_there bytes each h =
     parts (little_bytes 8 (token_of bytes)) (little_bytes 4 (length_of bytes)) bytes
-      (bytes_8 bytes each (omega arith))
-      (bytes_4 (drop 8 bytes) (bytes_drop 8 bytes each) (omega (arith, length-drop 8 bytes)))
+    (bytes_8 bytes each (omega arith))
+    (bytes_4 (drop 8 bytes) (bytes_drop 8 bytes each) (omega (arith, length-drop 8 bytes)))
 
 chosen : {A : Type 0} (b : Bool) (x y z : A) → cond b x y ≡ z → ((b ≡ true) × (x ≡ z)) ⊎ ((b ≡ false) × (y ≡ z))
 chosen true x y z h = inl (refl, h)
@@ -101,41 +101,45 @@ is_front : (limit : ℕ) (bytes : List ℕ) (m : Frame) (rest : List ℕ) → fr
 unfolding front
 is_front limit bytes m rest h =
     elim (chosen (ltb (length bytes) 12) _ _ _ h) [
-      inl p ↦ absurd (let e : More ≡ Whole m rest = p.1 in cc)
-    | inr p ↦ elim (chosen (ltb limit (length_of bytes)) _ _ _ p.1) [
-        inl q ↦ absurd (let e : TooLong (length_of bytes) ≡ Whole m rest = q.1 in cc)
-      | inr q ↦ elim (chosen (ltb (length bytes) (12 + length_of bytes)) _ _ _ q.1) [
-          inl r ↦ absurd (let e : More ≡ Whole m rest = r.1 in cc)
-        | inr r ↦
-            let e : Whole (record { token = token_of bytes; body = take (length_of bytes) (drop 12 bytes) }) (drop (12 + length_of bytes) bytes) ≡ Whole m rest = r.1 in
-            let f : record { token = token_of bytes; body = take (length_of bytes) (drop 12 bytes) } ≡ m = cc in
-            record {
-              room = ltb-false _ _ p.0;
-              small = ltb-false _ _ q.0;
-              there = ltb-false _ _ r.0;
-              token = sym (ap (λ (x : Frame). x.token) f);
-              body = sym (ap (λ (x : Frame). x.body) f);
-              left = cc;
-            } ] ] ]
+      | inl p ↦ absurd (let e : More ≡ Whole m rest = p.1 in cc)
+      | inr p ↦ elim (chosen (ltb limit (length_of bytes)) _ _ _ p.1) [
+        | inl q ↦ absurd (let e : TooLong (length_of bytes) ≡ Whole m rest = q.1 in cc)
+        | inr q ↦ elim (chosen (ltb (length bytes) (12 + length_of bytes)) _ _ _ q.1) [
+          | inl r ↦ absurd (let e : More ≡ Whole m rest = r.1 in cc)
+          | inr r ↦
+              let e : Whole (record { token = token_of bytes; body = take (length_of bytes) (drop 12 bytes) }) (drop (12 + length_of bytes) bytes) ≡ Whole m rest = r.1 in
+              let f : record { token = token_of bytes; body = take (length_of bytes) (drop 12 bytes) } ≡ m = cc in
+              record {
+                room = ltb-false _ _ p.0;
+                small = ltb-false _ _ q.0;
+                there = ltb-false _ _ r.0;
+                token = sym (ap (λ (x : Frame). x.token) f);
+                body = sym (ap (λ (x : Frame). x.body) f);
+                left = cc;
+              }
+        ]
+      ]
+    ]
 
 pub spelled_there : (limit : ℕ) (bytes : List ℕ) (m : Frame) (rest : List ℕ) → IsBytes bytes → front limit bytes ≡ Whole m rest → (bytes ≡ spelling m ++ rest) × Fits limit m × IsBytes rest
 spelled_there limit bytes m rest each h =
     let f = is_front limit bytes m rest h in
     let size : length m.body ≡ length_of bytes = ap length f.body ∙ length-take-le (length_of bytes) (drop 12 bytes) (omega (arith, length-drop 12 bytes)) in
-    let whole : m.body ++ rest ≡ drop 12 bytes = ap (λ x. x ++ rest) f.body ∙ ap (λ x. take (length_of bytes) (drop 12 bytes) ++ x) (f.left ∙ sym (drop-drop (length_of bytes) 12 bytes)) ∙ take-append-drop (length_of bytes) (drop 12 bytes) in
-    ( sym (append_assoc (header m.token (length m.body)) m.body rest ∙ ap (λ x. header m.token (length m.body) ++ x) whole ∙ rw (f.token, size) (header_there bytes each f.room)),
+    let whole : m.body ++ rest ≡ drop 12 bytes = ap (λ x. x ++ rest) f.body ∙ ap (λ x. take (length_of bytes) (drop 12 bytes) ++ x) (f.left ∙ sym (drop-drop (length_of bytes) 12 bytes)) ∙ take-append-drop (length_of bytes) (drop 12 bytes) in (
+      sym (append_assoc (header m.token (length m.body)) m.body rest ∙ ap (λ x. header m.token (length m.body) ++ x) whole ∙ rw (f.token, size) (header_there bytes each f.room)),
       record { token = rw f.token (token_small bytes each); body = omega arith },
-      rw f.left (bytes_drop (12 + length_of bytes) bytes each) )
+      rw f.left (bytes_drop (12 + length_of bytes) bytes each),
+    )
 
 -- the same, from the tests of the code
 pub there_whole : (limit token len : ℕ) (bytes : List ℕ) → token ≡ token_of bytes → len ≡ length_of bytes → 12 ≤ length bytes → len ≤ limit → 12 + len ≤ length bytes →
-  (12 + len ≤ length bytes) × (front limit bytes ≡ Whole (record { token = token; body = take (12 + len - 12) (drop 12 bytes) }) (drop (12 + len) bytes))
+    (12 + len ≤ length bytes) × (front limit bytes ≡ Whole (record { token = token; body = take (12 + len - 12) (drop 12 bytes) }) (drop (12 + len) bytes))
 there_whole limit token len bytes p q a b d =
     let e : 12 + len - 12 ≡ len = omega arith in
     (d, rw (e, p, q) (front_whole limit bytes a (rw (← q) b) (rw (← q) d)))
 
 pub there_spelled : (limit token len : ℕ) (bytes : List ℕ) → IsBytes bytes → token ≡ token_of bytes → len ≡ length_of bytes → 12 ≤ length bytes → len ≤ limit → 12 + len ≤ length bytes →
-  (bytes ≡ spelling (record { token = token; body = take (12 + len - 12) (drop 12 bytes) }) ++ drop (12 + len) bytes) × Fits limit (record { token = token; body = take (12 + len - 12) (drop 12 bytes) })
+    (bytes ≡ spelling (record { token = token; body = take (12 + len - 12) (drop 12 bytes) }) ++ drop (12 + len) bytes) × Fits limit (record { token = token; body = take (12 + len - 12) (drop 12 bytes) })
 there_spelled limit token len bytes each p q a b d =
     let e : 12 + len - 12 ≡ len = omega arith in
     let s = spelled_there limit bytes (record { token = token_of bytes; body = take (length_of bytes) (drop 12 bytes) }) (drop (12 + length_of bytes) bytes) each (front_whole limit bytes a (rw (← q) b) (rw (← q) d)) in
@@ -152,15 +156,18 @@ pub too_long_over : (limit : ℕ) (bytes : List ℕ) (len : ℕ) → front limit
 unfolding front
 too_long_over limit bytes len h =
     elim (chosen (ltb (length bytes) 12) _ _ _ h) [
-      inl p ↦ absurd (let e : More ≡ TooLong len = p.1 in cc)
-    | inr p ↦ elim (chosen (ltb limit (length_of bytes)) _ _ _ p.1) [
-        inl q ↦
+      | inl p ↦ absurd (let e : More ≡ TooLong len = p.1 in cc)
+      | inr p ↦ elim (chosen (ltb limit (length_of bytes)) _ _ _ p.1) [
+        | inl q ↦
             let e : TooLong (length_of bytes) ≡ TooLong len = q.1 in
             let f : length_of bytes ≡ len = cc in
             record { room = ltb-false _ _ p.0; field = f; above = rw (← f) (ltb-true _ _ q.0) }
-      | inr q ↦ elim (chosen (ltb (length bytes) (12 + length_of bytes)) _ _ _ q.1) [
-          inl r ↦ absurd (let e : More ≡ TooLong len = r.1 in cc)
-        | inr r ↦ absurd (let e : Whole (record { token = token_of bytes; body = take (length_of bytes) (drop 12 bytes) }) (drop (12 + length_of bytes) bytes) ≡ TooLong len = r.1 in cc) ] ] ]
+        | inr q ↦ elim (chosen (ltb (length bytes) (12 + length_of bytes)) _ _ _ q.1) [
+          | inl r ↦ absurd (let e : More ≡ TooLong len = r.1 in cc)
+          | inr r ↦ absurd (let e : Whole (record { token = token_of bytes; body = take (length_of bytes) (drop 12 bytes) }) (drop (12 + length_of bytes) bytes) ≡ TooLong len = r.1 in cc)
+        ]
+      ]
+    ]
 
 pub over_too_long : (limit : ℕ) (bytes : List ℕ) (len : ℕ) → Over limit bytes len → front limit bytes ≡ TooLong len
 unfolding front

@@ -1,11 +1,15 @@
-use Rattle.std.proofs.Common.{◌≡◌, ℕ, ◌+◌, ◌-◌, ◌<◌, ◌≤◌, List, ◌++◌, length, take, min, refl, sym, ap, subst, ◌∙◌, arith, length-append, Bool, true, false}
-use Rattle.std.proofs.lemmas.List.{take_min, take_all, length-take-le}
+use Rattle.std.proofs.Common.{◌≡◌, ℕ, ◌+◌, ◌-◌, ◌<◌, ◌≤◌, List, ◌++◌, length, take, min, refl, sym, ap, ◌∙◌, arith, length-append, Bool, true, false, inl, inr}
+use Rattle.std.proofs.lemmas.List.{take_min, take_all, take-append-le, length-take, length-take-le}
 use Rattle.std.proofs.lemmas.Slice.{take-put_mid}
 use Rattle.std.proofs.lemmas.Slice.Eq.{bytes_eq-Decides}
 use Rattle.std.specs.Str.{bytes_eq}
 use Rattle.std.proofs.Math.Seq.{take-append-add}
 use borrow.Rule.Slice.PartMut.{put_mid}
-use Rattle.reql_wire.specs.Greeting.{greeting_bytes}
+use Rattle.std.proofs.lemmas.Bool.{cases_lt}
+use Rattle.reql_wire.specs.Greeting.{greeting_bytes, Greets}
+use Rattle.reql_wire.specs.declared.greeter.Greeting.{Greeting}
+use Rattle.reql_wire.specs.declared.greeter.Greeting.TheVariants as greeting
+use Rattle.reql_wire.specs.declared.greeter.GreetFault.TheVariants as fault
 
 -- a list that is filled up to twelve
 pub filled : (held piece : List ℕ) (used : ℕ) → length held ≤ 12 → used ≡ min (length piece) (12 - length held) → held ++ take used piece ≡ take 12 (held ++ piece)
@@ -52,3 +56,30 @@ told_other bytes all b e f h g =
     let no : bytes_eq bytes greeting_bytes ≡ false = sym f ∙ h in
     let both : true ≡ false = sym yes ∙ no in
     cc
+
+-- what is past the twelfth byte changes no front
+pub cut_kept : (bytes piece : List ℕ) → take 12 (take 12 bytes ++ piece) ≡ take 12 (bytes ++ piece)
+cut_kept bytes piece = elim (cases_lt (length bytes) 12) [
+  | inl short ↦ ap (λ xs. take 12 (xs ++ piece)) (take_all 12 bytes (omega arith))
+  | inr long ↦
+      let size : length (take 12 bytes) ≡ 12 = length-take-le 12 bytes long in
+      take-append-le 12 (take 12 bytes) piece (omega arith) ∙ take_all 12 (take 12 bytes) (omega arith) ∙ sym (take-append-le 12 bytes piece long)
+]
+
+pub cut_greets : (bytes piece : List ℕ) (verdict : Greeting) → Greets (take 12 bytes ++ piece) verdict → Greets (bytes ++ piece) verdict
+cut_greets bytes piece greeting.More h = omega (arith, length-append (take 12 bytes) piece, length-append bytes piece, length-take 12 bytes)
+cut_greets bytes piece (greeting.Accepted used) h =
+    (omega (arith, length-append (take 12 bytes) piece, length-append bytes piece, length-take 12 bytes), sym (cut_kept bytes piece) ∙ h.1, h.2)
+cut_greets bytes piece (greeting.Refused fault.NotBuilt) h =
+    (omega (arith, length-append (take 12 bytes) piece, length-append bytes piece, length-take 12 bytes), λ e. h.1 (cut_kept bytes piece ∙ e))
+
+pub verdict_once : (bytes : List ℕ) (a b : Greeting) → Greets bytes a → Greets bytes b → a ≡ b
+verdict_once bytes greeting.More greeting.More p q = refl
+verdict_once bytes greeting.More (greeting.Accepted v) p q = absurd (omega arith)
+verdict_once bytes greeting.More (greeting.Refused fault.NotBuilt) p q = absurd (omega arith)
+verdict_once bytes (greeting.Accepted u) greeting.More p q = absurd (omega arith)
+verdict_once bytes (greeting.Accepted u) (greeting.Accepted v) p q = ap (λ n. greeting.Accepted n) (p.2 ∙ sym q.2)
+verdict_once bytes (greeting.Accepted u) (greeting.Refused fault.NotBuilt) p q = absurd (q.1 p.1)
+verdict_once bytes (greeting.Refused fault.NotBuilt) greeting.More p q = absurd (omega arith)
+verdict_once bytes (greeting.Refused fault.NotBuilt) (greeting.Accepted v) p q = absurd (p.1 q.1)
+verdict_once bytes (greeting.Refused fault.NotBuilt) (greeting.Refused fault.NotBuilt) p q = refl

@@ -1,5 +1,5 @@
 use Rattle.std.specs.Prelude.{◌≡◌, ℕ, ◌<◌, ◌≤◌, ◌^◌, List, ◌++◌, length, Option, Some, None, Result, Ok, Err}
-use Rattle.reql_wire.specs.Frames.{Fits, spelling, Front, More, Whole, TooLong, front, NoFrame, Over}
+use Rattle.reql_wire.specs.Frames.{Fits, spelling, More, Whole, TooLong, front, NoFrame, Over}
 use Rattle.reql_wire.specs.declared.frame.Frame.{Frame}
 use Rattle.reql_wire.specs.declared.frame.WireFault.{WireFault}
 use Rattle.reql_wire.specs.declared.frame.WireFault.TheVariants as fault

@@ -1,4 +1,4 @@
-use Rattle.std.specs.Prelude.{◌≡◌, ℕ, ◌+◌, ◌<◌, ◌≤◌, ◌^◌, nat_lt, if◌then◌else◌, List, [], ◌∷◌, ◌++◌, length, take, drop, get_or}
+use Rattle.std.specs.Prelude.{◌≡◌, ℕ, ◌+◌, ◌<◌, ◌≤◌, ◌^◌, nat_lt, if◌then◌else◌, List, ◌++◌, length, take, drop, get_or}
 use Rattle.std.specs.List.{AllByRecursion, flat_map}
 use Rattle.byteorder.specs.Endian.{little_bytes, little_number}
 use Rattle.reql_wire.specs.declared.frame.Frame.{Frame}
@@ -50,10 +50,10 @@ pub data Front : Type 0 where
 
 unfoldable pub front : ℕ → List ℕ → Front
 front limit bytes =
-  if nat_lt (length bytes) 12 then More
-  else if nat_lt limit (length_of bytes) then TooLong (length_of bytes)
-  else if nat_lt (length bytes) (12 + length_of bytes) then More
-  else Whole (record { token = token_of bytes; body = take (length_of bytes) (drop 12 bytes) }) (drop (12 + length_of bytes) bytes)
+    if nat_lt (length bytes) 12 then More
+    else if nat_lt limit (length_of bytes) then TooLong (length_of bytes)
+    else if nat_lt (length bytes) (12 + length_of bytes) then More
+    else Whole (record { token = token_of bytes; body = take (length_of bytes) (drop 12 bytes) }) (drop (12 + length_of bytes) bytes)
 
 -- numbers that a byte can hold
 abbrev pub IsBytes : List ℕ → Type 0

@@ -5,9 +5,7 @@ use std::marker::Model;
 
 /// The bytes of the greeting: version 0x400c2d20, a key of 0 bytes, protocol 0x7e6970c7, each a
 /// little-endian number of 4 bytes (RethinkDB's guide on writing drivers).
-const GREETING: [u8; 12] = [
-    0x20, 0x2d, 0x0c, 0x40, 0, 0, 0, 0, 0xc7, 0x70, 0x69, 0x7e,
-];
+const GREETING: [u8; 12] = [0x20, 0x2d, 0x0c, 0x40, 0, 0, 0, 0, 0xc7, 0x70, 0x69, 0x7e];
 
 /// What the bytes given so far are as a greeting.
 #[derive(Clone, Copy, Debug, PartialEq, Eq)]

@@ -10,10 +10,15 @@ mod frame;
 mod greeter;
 mod laws;
 mod reading;
+#[cfg(test)]
+mod tests;
 mod writing;
 
 pub use feeder::Feeder;
 pub use frame::{Frame, WireFault};
 pub use greeter::{GreetFault, Greeter, Greeting, accepted_answer};
-pub use laws::{frames_are_once, front_decides, front_of_spelling, one_reading, spelled};
+pub use laws::{
+    frames_are_once, front_decides, front_of_spelling, greeting_is_cut, one_reading, one_verdict,
+    spelled,
+};
 pub use writing::{FrameFault, put_frame};

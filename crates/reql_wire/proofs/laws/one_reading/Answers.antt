@@ -1,5 +1,5 @@
-use Rattle.std.proofs.Common.{◌≡◌, ◌-◌, ◌^◌, ◌++◌, sym, ◌∙◌, ap, arith}
-use Rattle.reql_wire.specs.Frames.{Front, Whole, front, spelling}
+use Rattle.std.proofs.Common.{◌≡◌, ◌-◌, ◌^◌, sym, ◌∙◌, ap, arith}
+use Rattle.reql_wire.specs.Frames.{Whole, front}
 use Rattle.reql_wire.proofs.Fronts.{front_spelling}
 use Rattle.reql_wire.proofs.laws.one_reading.Goals as goal
 

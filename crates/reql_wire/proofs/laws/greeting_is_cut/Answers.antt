@@ -1,0 +1,8 @@
+use Rattle.reql_wire.proofs.Greetings.{cut_kept, cut_greets}
+use Rattle.reql_wire.proofs.laws.greeting_is_cut.Goals as goal
+
+pub returns-clause-kept : goal.returns-clause-kept
+returns-clause-kept c = cut_kept
+
+pub returns-clause-verdict : goal.returns-clause-verdict
+returns-clause-verdict c = cut_greets
