@@ -78,4 +78,6 @@ SendFits sending.Failed room = Unit {0}
 -- the whole piece was said, or at a fault a front of it
 abbrev pub SendsAll : Tape → Tape → List ℕ → Bool → Type 0
 SendsAll old new piece true = Moves old new [] piece 0 old.over
-SendsAll old new piece false = (front : List ℕ) × (back : List ℕ) × (piece ≡ front ++ back) × Moves old new [] front 0 old.over × Rose old.faults_out new.faults_out
+SendsAll old new piece false =
+    (front : List ℕ) × (back : List ℕ) × (piece ≡ front ++ back)
+    × Moves old new [] front 0 old.over × Rose old.faults_out new.faults_out

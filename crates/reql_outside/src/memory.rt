@@ -1,7 +1,6 @@
 ghost use Rattle.std.specs.Prelude.{◌≡◌, ◌<◌, ◌≤◌, ◌+◌, ◌++◌, [], length, take, min, Some, false, IfOk, OnErr};
 ghost use Rattle.reql_outside.specs.Tape.{IsFresh, RecvFits, Receives, SendFits, Sends};
 ghost use Rattle.reql_outside.specs.Memory.{PlaysOn, Answers};
-ghost use Rattle.reql_outside.specs.Plays.{plays_of};
 
 use crate::script::{Script, Turn};
 use crate::{Link, LinkStep, Recv, Sending};
@@ -44,19 +43,25 @@ impl Model for MemLink {
 
     ghost Value = { Played };
 
-    ghost view = { λ m. record { tape = tape_of m.told; left = left_of m.script; calls = m.calls; send_fails = m.send_fails.items; most = m.most } };
+    ghost view = { λ m. record {
+      tape = tape_of m.told;
+      left = left_of m.script;
+      calls = m.calls;
+      send_fails = m.send_fails.items;
+      most = m.most;
+    } };
 
     ghost invariant = { λ m. 0 < m.most };
 }
 
 impl MemLink {
+    ghost use Rattle.reql_outside.specs.Played.{opening};
+
     /// A link that plays the steps in order, and whose k-th send, from 0, fails where k is in the
     /// list. It takes no memory.
     pub fn new(alloc: Global, script: Vec<LinkStep>, send_fails: Vec<u64>) -> MemLink
         ensures fresh { IsFresh result.tape }
-        ensures tells { (result.tape.given ≡ Some []) × (result.tape.sent ≡ Some []) }
-        ensures plays { result.left ≡ plays_of script.items }
-        ensures sends { (result.calls ≡ 0) × (result.send_fails ≡ send_fails.items) × (result.most ≡ usize.MAX) }
+        ensures opens { result ≡ opening script.items send_fails.items usize.MAX }
     {
         MemLink::taking(alloc, script, send_fails, usize::MAX)
     }
@@ -65,9 +70,7 @@ impl MemLink {
     pub fn slow(alloc: Global, script: Vec<LinkStep>, send_fails: Vec<u64>, most: u32) -> MemLink
         requires { 1 ≤ most }
         ensures fresh { IsFresh result.tape }
-        ensures tells { (result.tape.given ≡ Some []) × (result.tape.sent ≡ Some []) }
-        ensures plays { result.left ≡ plays_of script.items }
-        ensures sends { (result.calls ≡ 0) × (result.send_fails ≡ send_fails.items) × (result.most ≡ most) }
+        ensures opens { result ≡ opening script.items send_fails.items most }
     {
         MemLink::taking(alloc, script, send_fails, most as usize)
     }
@@ -75,9 +78,7 @@ impl MemLink {
     fn taking(alloc: Global, script: Vec<LinkStep>, send_fails: Vec<u64>, most: usize) -> MemLink
         requires { 1 ≤ most }
         ensures fresh { IsFresh result.tape }
-        ensures tells { (result.tape.given ≡ Some []) × (result.tape.sent ≡ Some []) }
-        ensures plays { result.left ≡ plays_of script.items }
-        ensures sends { (result.calls ≡ 0) × (result.send_fails ≡ send_fails.items) × (result.most ≡ most) }
+        ensures opens { result ≡ opening script.items send_fails.items most }
     {
         MemLink {
             script: Script::new(alloc, script),

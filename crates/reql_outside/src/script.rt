@@ -39,7 +39,10 @@ impl Model for Script {
 
     ghost Value = { Scripted };
 
-    ghost view = { λ s. record { piece = drop s.start s.loaded.items; later = plays_of (reverse s.steps.items) } };
+    ghost view = { λ s. record {
+      piece = drop s.start s.loaded.items;
+      later = plays_of (reverse s.steps.items);
+    } };
 
     ghost invariant = { λ s. s.start ≤ length s.loaded.items };
 }

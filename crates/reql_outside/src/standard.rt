@@ -1,5 +1,5 @@
-ghost use Rattle.std.specs.Prelude.{◌≡◌, None};
-ghost use Rattle.reql_outside.specs.Tape.{IsFresh};
+ghost use Rattle.std.specs.Prelude.{◌≡◌, ◌<◌, length, None};
+ghost use Rattle.reql_outside.specs.Tape.{IsFresh, Receives, RecvFits, SendFits, Sends};
 
 use crate::stream::{read_some, write_on};
 use crate::{Link, Recv, Sending};
@@ -53,7 +53,7 @@ impl StdLink {
 }
 
 impl Link for StdLink {
-    ghost use Rattle.reql_outside.specs.Standard.{tape_of};
+    ghost use Rattle.reql_outside.specs.Standard.{IsAwake, SendsOut, tape_of};
 
     type Record = StdRecord;
 
@@ -61,7 +61,12 @@ impl Link for StdLink {
 
     ghost kept = { tape_of };
 
-    fn recv(&mut self, buf: &mut [u8]) -> Recv {
+    fn recv(&mut self, buf: &mut [u8]) -> Recv
+        requires { 0 < length buf.old }
+        ensures fits { RecvFits result (length buf.old) }
+        ensures told { Receives self.old self.new buf.new result }
+        ensures awake { IsAwake self.old result }
+    {
         if self.counts.over {
             return Recv::End;
         }
@@ -78,7 +83,12 @@ impl Link for StdLink {
         }
     }
 
-    fn send(&mut self, piece: &[u8]) -> Sending {
+    fn send(&mut self, piece: &[u8]) -> Sending
+        requires { 0 < length piece.now }
+        ensures fits { SendFits result (length piece.now) }
+        ensures told { Sends self.old self.new piece.now result }
+        ensures whole { SendsOut self.old self.new (length piece.now) result }
+    {
         let written = write_on(&mut self.rt.stdout(), piece);
         if written < piece.len() {
             self.counts.faults_out = self.counts.faults_out.saturating_add(1);

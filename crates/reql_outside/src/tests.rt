@@ -3,19 +3,27 @@ use crate::{Link, LinkStep, MemLink, Recv, Sending, StdLink, send_all};
 use std::io::{self, ErrorKind, Read, Write};
 use std::test::Fail;
 
-// A stream whose calls go as the steps say, from the last: a count, 0 for a signal, 9 for an error.
+// What a call on a stream does: it takes at most so many bytes, a signal cuts it off, or it fails.
+#[derive(Drop)]
+enum Step {
+    Takes(usize),
+    Signal,
+    Error,
+}
+
+// A stream whose calls go as the steps say, the last one first.
 #[derive(Drop)]
 struct Stream {
-    steps: Vec<usize>,
+    steps: Vec<Step>,
     taken: Vec<u8>,
 }
 
 impl Stream {
     fn next(&mut self) -> io::Result<usize> {
         match self.steps.pop() {
-            Some(0) => Err(io::Error::from(ErrorKind::Interrupted)),
-            Some(9) | None => Err(io::Error::from(ErrorKind::BrokenPipe)),
-            Some(n) => Ok(n),
+            Some(Step::Takes(n)) => Ok(n),
+            Some(Step::Signal) => Err(io::Error::from(ErrorKind::Interrupted)),
+            Some(Step::Error) | None => Err(io::Error::from(ErrorKind::BrokenPipe)),
         }
     }
 }
@@ -97,14 +105,20 @@ fn a_slow_link_is_sent_the_whole_piece_or_its_front(rt: HostRuntime) -> Result<(
 fn streams_are_tried_again_at_signals_and_stop_at_errors(rt: HostRuntime) -> Result<(), Fail> {
     let alloc = rt.alloc();
     let mut input = Stream {
-        steps: vec![in alloc; 9, 2, 0, 0]?,
+        steps: vec![in alloc; Step::Error, Step::Takes(2), Step::Signal, Step::Signal]?,
         taken: Vec::new(alloc),
     };
     let mut buf = [0u8; 4];
     assert_eq!(rt; read_some(&mut input, &mut buf), Some(2));
     assert_eq!(rt; read_some(&mut input, &mut buf), None);
     let mut output = Stream {
-        steps: vec![in alloc; 9, 1, 3, 0, 2]?,
+        steps: vec![in alloc;
+            Step::Error,
+            Step::Takes(1),
+            Step::Takes(3),
+            Step::Signal,
+            Step::Takes(2),
+        ]?,
         taken: Vec::new(alloc),
     };
     assert_eq!(rt; write_on(&mut output, b"abcd"), 4);

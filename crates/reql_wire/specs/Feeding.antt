@@ -13,13 +13,20 @@ pub record Holding : Type 0 where
 
 -- what take answers, by the front of the bytes and by the frames that they spell
 abbrev pub Takes : Holding → Holding → Result (Option Frame) WireFault → Type 0
-Takes old new (Ok (Some f)) = (front old.limit old.held ≡ Whole f new.held) × (old.held ≡ spelling f ++ new.held) × Fits old.limit f × (new.limit ≡ old.limit)
-Takes old new (Ok None) = (front old.limit old.held ≡ More) × NoFrame old.limit old.held × (new ≡ old)
-Takes old new (Err (fault.TooLong len)) = (front old.limit old.held ≡ TooLong len) × Over old.limit old.held len × (new ≡ old)
+Takes old new (Ok (Some f)) =
+    (front old.limit old.held ≡ Whole f new.held)
+    × (old.held ≡ spelling f ++ new.held) × Fits old.limit f
+    × (new.limit ≡ old.limit)
+Takes old new (Ok None) =
+    (front old.limit old.held ≡ More) × NoFrame old.limit old.held × (new ≡ old)
+Takes old new (Err (fault.TooLong len)) =
+    (front old.limit old.held ≡ TooLong len) × Over old.limit old.held len × (new ≡ old)
 Takes old new (Err fault.Memory) = new ≡ old
 
--- what put_frame does
-abbrev pub PutFrame : List ℕ → List ℕ → Frame → Result Unit FrameFault → Type 0
-PutFrame old new f (Ok x) = (length f.body < 2 ^ 32) × (new ≡ old ++ spelling f)
-PutFrame old new f (Err (out.TooLong len)) = (2 ^ 32 ≤ length f.body) × (len ≡ length f.body) × (new ≡ old)
-PutFrame old new f (Err out.Memory) = (length f.body < 2 ^ 32) × (new ≡ old)
+-- what put_frame does: it appends the spelling of the frame, or changes nothing
+abbrev pub PutsFrame : List ℕ → List ℕ → ℕ → List ℕ → Result Unit FrameFault → Type 0
+PutsFrame old new token body (Ok x) =
+    (length body < 2 ^ 32) × (new ≡ old ++ spelling (record { token = token; body = body }))
+PutsFrame old new token body (Err (out.TooLong len)) =
+    (2 ^ 32 ≤ length body) × (len ≡ length body) × (new ≡ old)
+PutsFrame old new token body (Err out.Memory) = (length body < 2 ^ 32) × (new ≡ old)

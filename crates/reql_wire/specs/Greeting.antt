@@ -12,12 +12,15 @@ greeting_bytes = little_bytes 4 1074539808 ++ (little_bytes 4 0 ++ little_bytes 
 -- what all the bytes of a session are as its greeting, with the bytes that an accepted one has
 abbrev pub Greets : List ℕ → Greeting → Type 0
 Greets bytes greeting.More = length bytes < 12
-Greets bytes (greeting.Accepted used) = (12 ≤ length bytes) × (take 12 bytes ≡ greeting_bytes) × (used ≡ 12)
-Greets bytes (greeting.Refused fault.NotBuilt) = (12 ≤ length bytes) × (take 12 bytes ≢ greeting_bytes)
+Greets bytes (greeting.Accepted used) =
+    (12 ≤ length bytes) × (take 12 bytes ≡ greeting_bytes) × (used ≡ 12)
+Greets bytes (greeting.Refused fault.NotBuilt) =
+    (12 ≤ length bytes) × (take 12 bytes ≢ greeting_bytes)
 
 -- the same of a piece that came after some bytes, with the bytes of the piece that it has
 abbrev pub Answers : List ℕ → List ℕ → Greeting → Type 0
-Answers before piece (greeting.Accepted used) = Greets (before ++ piece) (greeting.Accepted 12) × (used ≡ 12 - length before)
+Answers before piece (greeting.Accepted used) =
+    Greets (before ++ piece) (greeting.Accepted 12) × (used ≡ 12 - length before)
 Answers before piece answer = Greets (before ++ piece) answer
 
 -- what is sent where the greeting is accepted

@@ -7,11 +7,14 @@ use reql_memory::{Memory, Seq};
 use std::alloc::{AllocError, Global};
 use std::marker::Model;
 
+/// The room, in bytes, that a feeder keeps for later pieces once all it held was taken.
+const KEPT_ROOM: usize = 65536;
+
 /// Takes the bytes of a stream in any pieces, and gives its whole frames in order.
 ///
 /// Each byte is moved a bounded number of times, however it comes: `take` looks at the header alone
 /// until the frame is whole, and the bytes of frames that were taken are cleared away only where
-/// they are at least half of what is there.
+/// they are at least half of what is there. A long body's room is given back once it is taken.
 #[derive(Drop)]
 pub struct Feeder {
     alloc: Global,
@@ -53,7 +56,8 @@ impl Feeder {
 
     /// Gives it the next piece of the stream. An `Err` changes nothing.
     pub fn feed(&mut self, piece: &[u8]) -> Result<(), Memory>
-        ensures ok { OnOk result (self.new ≡ record { limit = self.old.limit; held = self.old.held ++ piece.now }) }
+        ensures ok { OnOk result
+            (self.new ≡ record { limit = self.old.limit; held = self.old.held ++ piece.now }) }
         ensures err { OnErr result (self.new ≡ self.old) }
     {
         let unread = self.bytes.len() - self.start;
@@ -80,10 +84,21 @@ impl Feeder {
             Head::Whole { token, body, used } => match copied(self.alloc, body) {
                 Ok(body) => {
                     self.start += used;
+                    self.give_back_room();
                     Ok(Some(Frame { token, body }))
                 }
                 Err(_) => Err(WireFault::Memory),
             },
+        }
+    }
+
+    // Gives back the room of what was taken, where it is much and nothing else is held.
+    fn give_back_room(&mut self)
+        ensures { self.new ≡ self.old }
+    {
+        if self.start == self.bytes.len() && self.bytes.capacity() > KEPT_ROOM {
+            self.bytes = Vec::new(self.alloc);
+            self.start = 0;
         }
     }
 }

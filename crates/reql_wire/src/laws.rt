@@ -1,43 +1,55 @@
-ghost use Rattle.std.specs.Prelude.{◌≡◌, ◌<◌, ◌^◌, ◌-◌, ◌++◌, ◌↔◌, ℕ, List, take, ◌⊎◌};
-ghost use Rattle.std.specs.List.{AllByRecursion};
-ghost use Rattle.reql_wire.specs.Frames.{Fits, Frames, IsBytes, More, NoFrame, Over, TooLong, Whole, front, spelling, spellings};
+ghost use Rattle.std.specs.Prelude.{◌≡◌, ◌<◌, ◌^◌, ◌-◌, ◌++◌, ◌↔◌, ◌⊎◌, ℕ, List, take};
+ghost use Rattle.reql_wire.specs.Frames.{Fits, Frames, IsBytes, NoFrame, Over};
+ghost use Rattle.reql_wire.specs.Frames.{More, TooLong, Whole, front, spelling};
 ghost use Rattle.reql_wire.specs.Greeting.{Greets};
 ghost use Rattle.reql_wire.specs.declared.frame.Frame.{Frame};
 ghost use Rattle.reql_wire.specs.declared.greeter.Greeting.{Greeting};
 
 /// A frame that was spelled is read again, whatever follows.
 pub fn front_of_spelling()
-    ensures { (limit : ℕ) (frame : Frame) (rest : List ℕ) → limit < 2 ^ 32 → Fits limit frame → front limit (spelling frame ++ rest) ≡ Whole frame rest }
+    ensures { (limit : ℕ) (frame : Frame) (rest : List ℕ) →
+        limit < 2 ^ 32 → Fits limit frame → front limit (spelling frame ++ rest) ≡ Whole frame rest }
 {}
 
 /// What is read is spelled so.
 pub fn spelled()
-    ensures { (limit : ℕ) (bytes : List ℕ) (frame : Frame) (rest : List ℕ) → IsBytes bytes → front limit bytes ≡ Whole frame rest → (bytes ≡ spelling frame ++ rest) × Fits limit frame × IsBytes rest }
+    ensures { (limit : ℕ) (bytes : List ℕ) (frame : Frame) (rest : List ℕ) →
+        IsBytes bytes → front limit bytes ≡ Whole frame rest →
+        (bytes ≡ spelling frame ++ rest) × Fits limit frame × IsBytes rest }
 {}
 
 /// No spelling begins another.
 pub fn one_reading()
-    ensures { (f g : Frame) (a b : List ℕ) → Fits (2 ^ 32 - 1) f → Fits (2 ^ 32 - 1) g → spelling f ++ a ≡ spelling g ++ b → (f ≡ g) × (a ≡ b) }
+    ensures { (f g : Frame) (a b : List ℕ) →
+        Fits (2 ^ 32 - 1) f → Fits (2 ^ 32 - 1) g → spelling f ++ a ≡ spelling g ++ b →
+        (f ≡ g) × (a ≡ b) }
 {}
 
 /// Where no frame is read, none is spelled there, and a length above the limit is the cause exactly
 /// where it is said to be.
 pub fn front_decides()
-    ensures more { (limit : ℕ) (bytes : List ℕ) → limit < 2 ^ 32 → front limit bytes ≡ More → NoFrame limit bytes }
-    ensures too_long { (limit : ℕ) (bytes : List ℕ) (len : ℕ) → (front limit bytes ≡ TooLong len) ↔ Over limit bytes len }
-    ensures over { (limit : ℕ) (bytes : List ℕ) (len : ℕ) → limit < 2 ^ 32 → Over limit bytes len → NoFrame limit bytes }
-    ensures none { (limit : ℕ) (bytes : List ℕ) → IsBytes bytes → NoFrame limit bytes → (front limit bytes ≡ More) ⊎ ((len : ℕ) × Over limit bytes len) }
+    ensures more { (limit : ℕ) (bytes : List ℕ) →
+        limit < 2 ^ 32 → front limit bytes ≡ More → NoFrame limit bytes }
+    ensures too_long { (limit : ℕ) (bytes : List ℕ) (len : ℕ) →
+        (front limit bytes ≡ TooLong len) ↔ Over limit bytes len }
+    ensures over { (limit : ℕ) (bytes : List ℕ) (len : ℕ) →
+        limit < 2 ^ 32 → Over limit bytes len → NoFrame limit bytes }
+    ensures none { (limit : ℕ) (bytes : List ℕ) → IsBytes bytes → NoFrame limit bytes →
+        (front limit bytes ≡ More) ⊎ ((len : ℕ) × Over limit bytes len) }
 {}
 
 /// Bytes have one reading as frames.
 pub fn frames_are_once()
-    ensures { (limit : ℕ) (bytes : List ℕ) (fs gs : List Frame) (a b : List ℕ) → limit < 2 ^ 32 → Frames limit bytes fs a → Frames limit bytes gs b → (fs ≡ gs) × (a ≡ b) }
+    ensures { (limit : ℕ) (bytes : List ℕ) (fs gs : List Frame) (a b : List ℕ) →
+        limit < 2 ^ 32 → Frames limit bytes fs a → Frames limit bytes gs b → (fs ≡ gs) × (a ≡ b) }
 {}
 
 /// The greeter's 12 bytes are enough: what they and a piece are as a greeting, all bytes are.
 pub fn greeting_is_cut()
-    ensures kept { (bytes piece : List ℕ) → take 12 (take 12 bytes ++ piece) ≡ take 12 (bytes ++ piece) }
-    ensures verdict { (bytes piece : List ℕ) (verdict : Greeting) → Greets (take 12 bytes ++ piece) verdict → Greets (bytes ++ piece) verdict }
+    ensures kept { (bytes piece : List ℕ) →
+        take 12 (take 12 bytes ++ piece) ≡ take 12 (bytes ++ piece) }
+    ensures verdict { (bytes piece : List ℕ) (verdict : Greeting) →
+        Greets (take 12 bytes ++ piece) verdict → Greets (bytes ++ piece) verdict }
 {}
 
 /// Bytes have one verdict as a greeting.

@@ -1,6 +1,6 @@
 ghost use Rattle.std.specs.Prelude.{◌≡◌, ◌<◌, ◌++◌, ◌^◌, length, take, OnOk, OnErr};
 ghost use Rattle.reql_wire.specs.Frames.{header, spelling};
-ghost use Rattle.reql_wire.specs.Feeding.{PutFrame};
+ghost use Rattle.reql_wire.specs.Feeding.{PutsFrame};
 
 use crate::reading::HEADER_BYTES;
 use byteorder::{ByteOrder, LittleEndian};
@@ -27,7 +27,8 @@ fn header_of(token: u64, len: u32) -> [u8; HEADER_BYTES]
 
 fn put(out: &mut Vec<u8>, token: u64, len: u32, body: &[u8]) -> Result<(), AllocError>
     requires { length body.now ≡ len }
-    ensures ok { OnOk result (out.new.items ≡ out.old.items ++ spelling (record { token = token; body = body.now })) }
+    ensures ok { OnOk result
+        (out.new.items ≡ out.old.items ++ spelling (record { token = token; body = body.now })) }
     ensures err { OnErr result (take (length out.old.items) out.new.items ≡ out.old.items) }
 {
     let header = header_of(token, len);
@@ -40,7 +41,7 @@ fn put(out: &mut Vec<u8>, token: u64, len: u32, body: &[u8]) -> Result<(), Alloc
 ///
 /// Too long: exactly where the body has 2^32 bytes or more.
 pub fn put_frame(out: &mut Vec<u8>, token: u64, body: &[u8]) -> Result<(), FrameFault>
-    ensures { PutFrame out.old.items out.new.items (record { token = token; body = body.now }) result }
+    ensures { PutsFrame out.old.items out.new.items token body.now result }
 {
     match u32::try_from(body.len()) {
         Err(_) => Err(FrameFault::TooLong {
