@@ -18,10 +18,17 @@ fn fault_of(alloc: Global, source: &str) -> Option<JsonFault> {
     }
 }
 
+fn number_in(d: &Datum) -> Option<i64> {
+    match d {
+        Datum::Num(n) => Some(n.get()),
+        _ => None,
+    }
+}
+
 fn number_of(alloc: Global, source: &str) -> Option<i64> {
     match read(alloc, source) {
-        Ok(Datum::Num(n)) => Some(n.get()),
-        _ => None,
+        Ok(d) => number_in(&d),
+        Err(_) => None,
     }
 }
 
