@@ -8,6 +8,7 @@ use std::cmp::Ordering;
 use std::marker::Model;
 use std::sync::ArcSlice;
 
+/// Bytes that are shared: the binary of a document. Contracts see their list.
 #[derive(Drop)]
 pub struct Blob {
     bytes: ArcSlice<u8>,
@@ -23,6 +24,7 @@ impl Model for Blob {
 }
 
 impl Blob {
+    /// Bytes of its own.
     pub fn of(alloc: Global, bytes: &[u8]) -> Result<Blob, Memory>
         ensures { IfOk result (λ b. b ≡ bytes.now) }
     {
@@ -32,19 +34,21 @@ impl Blob {
         }
     }
 
+    /// The bytes.
     pub fn as_bytes(&self) -> &[u8]
         ensures { result.now ≡ self.now }
     {
         self.bytes.as_slice()
     }
 
+    /// By the first byte that differs, a proper prefix first.
     pub fn order(&self, bytes: &[u8]) -> Ordering
         ensures { result ≡ text_order self.now bytes.now }
     {
         self.as_bytes().cmp(bytes)
     }
 
-    // An equal blob that shares the bytes.
+    /// An equal blob that shares the bytes. Memory where the count of sharers is full.
     pub fn copy(&self) -> Result<Blob, Memory>
         ensures { IfOk result (λ b. b ≡ self.now) }
     {

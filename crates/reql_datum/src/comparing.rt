@@ -1,8 +1,8 @@
-// The order of datums.
-ghost use Rattle.std.specs.Prelude.{◌≡◌};
+// The order of documents.
+ghost use Rattle.std.specs.Prelude.{◌≡◌, ◌⊎◌};
 ghost use Rattle.std.specs.Ordering.{MatchOrdering};
 ghost use Rattle.std.specs.Cmp.{IsTotalOrder};
-ghost use Rattle.reql_datum.specs.Plain.{items_of, pairs_of};
+ghost use Rattle.reql_datum.specs.Plain.{Plain, items_of, pairs_of};
 ghost use Rattle.reql_datum.specs.View.{plain};
 ghost use Rattle.reql_datum.specs.Order.{rank, less, order, items_order, pairs_order};
 
@@ -26,6 +26,11 @@ fn rank(d: &Datum) -> u8
     }
 }
 
+/// How two documents stand in the order of the ReQL reference: by their kinds, and at equal kinds
+/// false before true, numbers by value, texts and bytes by their bytes, times by the instant and
+/// then by the zone, arrays item by item, objects as arrays of their members, a proper prefix first.
+///
+/// It walks both once, and takes no memory.
 #[tactic(auto, using(crate::proofs::Order::order_says))]
 pub fn compare(a: &Datum, b: &Datum) -> Ordering
     ensures answer { result ≡ order (plain a.now) (plain b.now) }
@@ -99,7 +104,66 @@ fn compare_fields(ms: &Fields, ns: &Fields) -> Ordering
     }
 }
 
-// The laws of the order, of all plain values.
+/// The laws of the order, of all documents: of two that differ one is below the other, none is below
+/// itself, and what is below what is below is below. The answer of `compare` is a total order too.
 pub fn order_laws()
-    ensures { IsTotalOrder order }
+    ensures total { (a b : Plain) → less a b ⊎ ((a ≡ b) ⊎ less b a) }
+    ensures irreflexive { (a : Plain) → ¬ less a a }
+    ensures transitive { (a b c : Plain) → less a b → less b c → less a c }
+    ensures answer { IsTotalOrder order }
 {}
+
+impl PartialEq for Datum {
+    ghost use Rattle.std.specs.Ordering.{eq_by_cmp, on};
+    ghost use Rattle.std.specs.Cmp.{partial_equiv_from_equiv, eq_by_cmp_equiv, on_total};
+    ghost use Rattle.reql_datum.specs.Total.{order_total};
+
+    ghost eq = { eq_by_cmp (on plain order) };
+
+    ghost laws = { partial_equiv_from_equiv (eq_by_cmp_equiv (on_total plain order_total)) };
+
+    fn eq(&self, other: &Datum) -> bool {
+        compare(self, other).is_eq()
+    }
+}
+
+impl Eq for Datum {
+    ghost use Rattle.std.specs.Cmp.{eq_by_cmp_equiv, on_total};
+    ghost use Rattle.reql_datum.specs.Total.{order_total};
+
+    ghost laws = { eq_by_cmp_equiv (on_total plain order_total) };
+}
+
+impl PartialOrd for Datum {
+    ghost use Rattle.std.specs.Ordering.{as_partial_cmp, on};
+    ghost use Rattle.std.specs.Cmp.{po, on_total};
+    ghost use Rattle.std.proofs.Common.{refl};
+    ghost use Rattle.reql_datum.specs.Total.{order_total};
+
+    ghost partial_cmp = { as_partial_cmp (on plain order) };
+
+    ghost laws = { po (on_total plain order_total) (λ x y. refl) };
+
+    fn partial_cmp(&self, other: &Datum) -> Option<Ordering> {
+        Some(compare(self, other))
+    }
+}
+
+impl Ord for Datum {
+    ghost use Rattle.std.specs.Ordering.{on};
+    ghost use Rattle.std.specs.Cmp.{on_total};
+    ghost use Rattle.std.proofs.Common.{refl};
+    ghost use Rattle.reql_datum.specs.Total.{order_total};
+
+    ghost cmp = { on plain order };
+
+    ghost total = { on_total plain order_total };
+
+    ghost matches_partial_cmp = { λ x y. refl };
+
+    ghost matches_eq = { λ x y. refl };
+
+    fn cmp(&self, other: &Datum) -> Ordering {
+        compare(self, other)
+    }
+}

@@ -1,5 +1,5 @@
-// A datum, and the lists and objects in it.
-ghost use Rattle.std.specs.Prelude.{◌≡◌, [], ◌∷◌, ◌++◌, length, map, is_ok, IfOk, IfErr, OnSome, MatchOption, drop, ◌+◌, ◌^◌, ◌<◌, option_map, slice_get, if◌then◌else◌};
+// A document, and the lists and objects in it.
+ghost use Rattle.std.specs.Prelude.{◌≡◌, [], ◌∷◌, ◌++◌, length, map, is_ok, IfOk, IfErr, OnSome, MatchOption, drop, ◌+◌, ◌^◌, ◌<◌, option_map, slice_get, nat_eq, if◌then◌else◌};
 ghost use Rattle.reql_datum.specs.View.{plain, member};
 ghost use Rattle.reql_datum.specs.Members.{find, put, without, AreRising};
 
@@ -14,9 +14,15 @@ use std::alloc::{AllocError, Global};
 use std::marker::Model;
 use std::sync::Arc;
 
+/// A document: a value of any kind, in the order in which the kinds rise.
+///
+/// Contracts see it by `plain`, as what it stands for. Its lists, objects, texts and bytes are
+/// shared: a copy is a count, and a shared list or object is copied by one level when it is written
+/// to. Documents may be sent and shared between threads.
 #[cycle(datum)]
 #[derive(Drop)]
 pub enum Datum {
+    /// Below all others: MINVAL.
     Low,
     List(Items),
     Bool(bool),
@@ -26,9 +32,11 @@ pub enum Datum {
     Binary(Blob),
     Time(Moment),
     Text(Name),
+    /// Above all others: MAXVAL.
     High,
 }
 
+/// The items of a list, from place 0. Contracts see the list of what they stand for.
 #[cycle(datum)]
 #[derive(Drop)]
 pub struct Items {
@@ -36,12 +44,20 @@ pub struct Items {
     held: Option<Arc<Vec<Datum>>>,
 }
 
+/// The members of an object, a map from names to documents that rises by the bytes of the names.
+///
+/// Contracts see the list of its members, each a name with what its value stands for. A look-up
+/// takes a logarithm of steps, and the member at a place a constant number. An object that is built
+/// by rising names takes linear time.
 #[cycle(datum)]
 #[derive(Drop)]
 pub struct Fields {
     alloc: Global,
     held: Option<Arc<Vec<Field>>>,
 }
+
+// An object of up to so many names takes no more memory than at its first.
+const ROOM: usize = 12;
 
 #[cycle(datum)]
 #[derive(Drop)]
@@ -97,24 +113,35 @@ impl Model for Fields {
 }
 
 impl Items {
+    /// The list of nothing, which takes no memory.
     pub fn new(alloc: Global) -> Items
         ensures { result ≡ [] }
     {
         Items { alloc, held: None }
     }
 
+    /// The items as a slice.
     pub fn as_slice(&self) -> &[Datum]
         ensures { map plain result.now ≡ self.now }
     {
         shown(&self.held)
     }
 
+    /// How many items it has.
     pub fn len(&self) -> usize
         ensures { result ≡ length self.now }
     {
         self.as_slice().len()
     }
 
+    /// Whether it has no item.
+    pub fn is_empty(&self) -> bool
+        ensures { result ≡ nat_eq (length self.now) 0 }
+    {
+        self.as_slice().is_empty()
+    }
+
+    /// The item at a place. With `rest`, a loop over the places proves itself.
     pub fn at(&self, place: usize) -> Option<&Datum>
         ensures found { option_map (λ d. plain d.now) result ≡ slice_get self.now place }
         ensures rest { MatchOption result (drop place self.now ≡ []) (λ d. drop place self.now ≡ plain d.now ∷ drop (place + 1) self.now) }
@@ -130,6 +157,7 @@ impl Items {
         self.as_slice().get(place)
     }
 
+    /// Adds an item at the end, in place where the list isn't shared.
     pub fn push(&mut self, item: Datum) -> Result<(), Refused<Datum>>
         ensures items { self.new ≡ (if is_ok result then self.old ++ plain item ∷ [] else self.old) }
         ensures back { IfErr result (λ refused. refused.back ≡ item) }
@@ -137,7 +165,7 @@ impl Items {
         push_on(self.alloc, &mut self.held, item)
     }
 
-    // An equal list that shares the items.
+    /// An equal list that shares the items. Memory where the count of sharers is full.
     pub fn copy(&self) -> Result<Items, Memory>
         ensures { IfOk result (λ items. items ≡ self.now) }
     {
@@ -172,7 +200,8 @@ impl Clone for Field {
 }
 
 impl Datum {
-    // An equal datum that shares the lists and texts.
+    /// An equal document that shares all it holds, in a constant number of steps. Memory where a
+    /// count of sharers is full.
     pub fn copy(&self) -> Result<Datum, Memory>
         ensures { IfOk result (λ d. d ≡ self.now) }
     {
@@ -192,6 +221,7 @@ impl Datum {
 }
 
 impl Fields {
+    /// The object without members, which takes no memory.
     pub fn new(alloc: Global) -> Fields
         ensures { result ≡ [] }
     {
@@ -205,18 +235,20 @@ impl Fields {
         shown(&self.held)
     }
 
+    /// The value at a name.
     pub fn get(&self, name: &str) -> Option<&Datum>
         ensures { option_map (λ d. plain d.now) result ≡ find name.now self.now }
     {
         value_in(self.members(), name)
     }
 
+    /// Puts a value at a name, and gives the value that it replaced.
     pub fn put(&mut self, name: Name, value: Datum) -> Result<Option<Datum>, Refused<(Name, Datum)>>
         ensures replaced { IfOk result (λ old. option_map plain old ≡ find name self.old) }
         ensures members { self.new ≡ (if is_ok result then put name (plain value) self.old else self.old) }
         ensures back { IfErr result (λ refused. refused.back ≡ (name, value)) }
     {
-        if let Err(_) = own(self.alloc, &mut self.held) {
+        if let Err(_) = own(self.alloc, &mut self.held, ROOM) {
             return Err(Refused {
                 back: (name, value),
             });
@@ -234,6 +266,8 @@ impl Fields {
         }
     }
 
+    /// Removes a name with its value, and gives the value. Memory where a shared object can't be
+    /// copied.
     pub fn remove(&mut self, name: &str) -> Result<Option<Datum>, Memory>
         ensures removed { IfOk result (λ old. option_map plain old ≡ find name.now self.old) }
         ensures members { self.new ≡ (if is_ok result then without name.now self.old else self.old) }
@@ -241,7 +275,7 @@ impl Fields {
         if let None = self.get(name) {
             return Ok(None);
         }
-        own(self.alloc, &mut self.held)?;
+        own(self.alloc, &mut self.held, ROOM)?;
         match &mut self.held {
             None => Err(Memory),
             Some(list) => match Arc::get_mut(list) {
@@ -251,7 +285,7 @@ impl Fields {
         }
     }
 
-    // An equal object that shares the members.
+    /// An equal object that shares the members. Memory where the count of sharers is full.
     pub fn copy(&self) -> Result<Fields, Memory>
         ensures { IfOk result (λ fields. fields ≡ self.now) }
     {
@@ -262,12 +296,21 @@ impl Fields {
         })
     }
 
+    /// How many members it has.
     pub fn len(&self) -> usize
         ensures { result ≡ length self.now }
     {
         self.members().len()
     }
 
+    /// Whether it has no member.
+    pub fn is_empty(&self) -> bool
+        ensures { result ≡ nat_eq (length self.now) 0 }
+    {
+        self.members().is_empty()
+    }
+
+    /// The member at a place. With `rest`, a loop over the places proves itself.
     pub fn at(&self, place: usize) -> Option<(&Name, &Datum)>
         ensures found { option_map (λ m. (m.0.now, plain m.1.now)) result ≡ slice_get self.now place }
         ensures rest { MatchOption result (drop place self.now ≡ []) (λ m. drop place self.now ≡ (m.0.now, plain m.1.now) ∷ drop (place + 1) self.now) }
@@ -287,4 +330,13 @@ impl Fields {
             None => None,
         }
     }
+}
+
+fn crosses<T: Send + Sync>(_held: &T) {}
+
+// Proved only while documents may be sent to other threads, and shared with them.
+fn documents_cross(d: &Datum, items: &Items, fields: &Fields) {
+    crosses(d);
+    crosses(items);
+    crosses(fields);
 }

@@ -5,17 +5,17 @@ mod blob;
 mod comparing;
 mod datum;
 mod edit;
+mod fault;
 mod moment;
 mod name;
 mod shape;
 pub mod shared;
-#[cfg(test)]
-mod tests;
 mod whole;
 
 pub use blob::Blob;
 pub use comparing::{compare, order_laws};
 pub use datum::{Datum, Fields, Items};
+pub use fault::Fault;
 pub use moment::{Moment, zone_laws};
 pub use name::Name;
 pub use reql_memory::{Memory, Refused, Seq};

@@ -6,6 +6,9 @@ use crate::whole::Whole;
 use std::cmp::Ordering;
 use std::marker::Model;
 
+/// A whole second since 1970, seen in a zone that is so many minutes east of UTC, or west below 0.
+///
+/// Contracts see both numbers.
 #[derive(Clone, Copy)]
 pub struct Moment {
     at: Whole,
@@ -26,6 +29,7 @@ impl Model for Moment {
 }
 
 impl Moment {
+    /// The moment, or None where the zone is a day or more from UTC.
     pub fn of(at: Whole, zone: i16) -> Option<Moment>
         ensures { result ≡ (if is_zone zone then Some (at, zone) else None) }
     {
@@ -36,12 +40,14 @@ impl Moment {
         }
     }
 
+    /// The seconds since 1970, in UTC.
     pub fn at(self) -> Whole
         ensures { result ≡ self.0 }
     {
         self.at
     }
 
+    /// The minutes east of UTC.
     pub fn zone(self) -> i16
         ensures value { result ≡ self.1 }
         ensures in_range { IsZone result }
@@ -49,6 +55,7 @@ impl Moment {
         self.zone
     }
 
+    /// By the instant, and then by the zone.
     pub fn order(self, other: Moment) -> Ordering
         ensures { result ≡ moment_order self other }
     {
@@ -71,7 +78,7 @@ fn order_zones(a: i16, b: i16) -> Ordering
     }
 }
 
-// Zones are in the order of their texts.
+/// Zones are in the order of their texts, as `+05:30`.
 pub fn zone_laws()
     ensures { ZonesByText }
 {}

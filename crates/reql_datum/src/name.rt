@@ -8,6 +8,7 @@ use std::cmp::Ordering;
 use std::marker::Model;
 use std::sync::ArcStr;
 
+/// A text that is shared: a name, or the text of a document. Contracts see its bytes.
 #[derive(Drop)]
 pub struct Name {
     chars: ArcStr,
@@ -23,6 +24,7 @@ impl Model for Name {
 }
 
 impl Name {
+    /// A text of its own. Code that makes many like objects copies their names instead.
     pub fn of(alloc: Global, text: &str) -> Result<Name, Memory>
         ensures { IfOk result (λ n. n ≡ text.now) }
     {
@@ -32,19 +34,21 @@ impl Name {
         }
     }
 
+    /// The text.
     pub fn as_str(&self) -> &str
         ensures { result.now ≡ self.now }
     {
         self.chars.as_str()
     }
 
+    /// How it stands to a text, by their bytes, which is by code points.
     pub fn order(&self, text: &str) -> Ordering
         ensures { result ≡ text_order self.now text.now }
     {
         self.as_str().cmp(text)
     }
 
-    // An equal name that shares the text.
+    /// An equal name that shares the text. Memory where the count of sharers is full.
     pub fn copy(&self) -> Result<Name, Memory>
         ensures { IfOk result (λ n. n ≡ self.now) }
     {
@@ -52,5 +56,58 @@ impl Name {
             Ok(chars) => Ok(Name { chars }),
             Err(_) => Err(Memory),
         }
+    }
+}
+
+impl PartialEq for Name {
+    ghost use Rattle.std.specs.Ordering.{eq_by_cmp};
+    ghost use Rattle.std.specs.Cmp.{partial_equiv_from_equiv, eq_by_cmp_equiv};
+    ghost use Rattle.std.proofs.lemmas.Cmp.{nat_list_cmp_total};
+
+    ghost eq = { eq_by_cmp text_order };
+
+    ghost laws = { partial_equiv_from_equiv (eq_by_cmp_equiv nat_list_cmp_total) };
+
+    fn eq(&self, other: &Name) -> bool {
+        self.order(other.as_str()).is_eq()
+    }
+}
+
+impl Eq for Name {
+    ghost use Rattle.std.specs.Cmp.{eq_by_cmp_equiv};
+    ghost use Rattle.std.proofs.lemmas.Cmp.{nat_list_cmp_total};
+
+    ghost laws = { eq_by_cmp_equiv nat_list_cmp_total };
+}
+
+impl PartialOrd for Name {
+    ghost use Rattle.std.specs.Ordering.{as_partial_cmp};
+    ghost use Rattle.std.specs.Cmp.{po};
+    ghost use Rattle.std.proofs.lemmas.Cmp.{nat_list_cmp_total};
+    ghost use Rattle.std.proofs.Common.{refl};
+
+    ghost partial_cmp = { as_partial_cmp text_order };
+
+    ghost laws = { po nat_list_cmp_total (λ x y. refl) };
+
+    fn partial_cmp(&self, other: &Name) -> Option<Ordering> {
+        Some(self.order(other.as_str()))
+    }
+}
+
+impl Ord for Name {
+    ghost use Rattle.std.proofs.lemmas.Cmp.{nat_list_cmp_total};
+    ghost use Rattle.std.proofs.Common.{refl};
+
+    ghost cmp = { text_order };
+
+    ghost total = { nat_list_cmp_total };
+
+    ghost matches_partial_cmp = { λ x y. refl };
+
+    ghost matches_eq = { λ x y. refl };
+
+    fn cmp(&self, other: &Name) -> Ordering {
+        self.order(other.as_str())
     }
 }

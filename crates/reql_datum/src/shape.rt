@@ -1,4 +1,4 @@
-// How deep a datum is, and whether it may be a key.
+// How deep a document is, and whether it may be a key.
 ghost use Rattle.std.specs.Prelude.{◌≡◌, ◌^◌, ◌-◌, min};
 ghost use Rattle.reql_datum.specs.Plain.{depth, items_depth, pairs_depth, items_of, pairs_of};
 ghost use Rattle.reql_datum.specs.Keys.{is_key, are_keys};
@@ -7,6 +7,8 @@ ghost use Rattle.reql_datum.specs.View.{plain};
 use crate::datum::{Datum, Fields, Items};
 
 impl Datum {
+    /// How deep lists and objects nest in it: 0 for all other kinds. A depth above 2^32 - 1 is given
+    /// as that.
     #[cycle(depth)]
     #[tactic(auto, using(crate::proofs::Walks::walks))]
     pub fn depth(&self) -> u32
@@ -19,6 +21,7 @@ impl Datum {
         }
     }
 
+    /// Whether it may be a key: a boolean, a number, bytes, a time, a text, or a list of keys.
     #[cycle(is_key)]
     #[tactic(auto, using(crate::proofs::Walks::walks))]
     pub fn is_key(&self) -> bool

@@ -1,4 +1,5 @@
-// Lists that are shared, and copied where a shared one is written to: calls on the field that holds one.
+//! Lists that are shared, and copied where a shared one is written to: calls on the field that
+//! holds one, for the types of this crate and of those above it.
 ghost use Rattle.std.specs.Prelude.{◌≡◌, [], ◌∷◌, ◌++◌, is_ok, IfOk, IfErr, if◌then◌else◌};
 ghost use Rattle.reql_datum.specs.Shared.{held_items};
 
@@ -6,6 +7,7 @@ use reql_memory::{Memory, Refused};
 use std::alloc::Global;
 use std::sync::Arc;
 
+/// The items, none where there is no list.
 pub fn shown<T>(held: &Option<Arc<Vec<T>>>) -> &[T]
     ensures { result.now ≡ held_items held.now }
 {
@@ -15,6 +17,7 @@ pub fn shown<T>(held: &Option<Arc<Vec<T>>>) -> &[T]
     }
 }
 
+/// A field that shares the list. Memory where the count of sharers is full.
 pub fn copied<T>(held: &Option<Arc<Vec<T>>>) -> Result<Option<Arc<Vec<T>>>, Memory>
     ensures { IfOk result (λ copy. held_items copy ≡ held_items held.now) }
 {
@@ -34,12 +37,12 @@ fn is_own<T>(held: &Option<Arc<Vec<T>>>) -> bool {
     }
 }
 
-// A copy of each item, with room for one more.
-fn copies_of<T: Clone>(alloc: Global, items: &[T]) -> Result<Vec<T>, Memory>
+// A copy of each item, with room for so many more.
+fn copies_of<T: Clone>(alloc: Global, items: &[T], room: usize) -> Result<Vec<T>, Memory>
     requires exact { (x y : T) → T.is_clone x y → y ≡ x }
     ensures { IfOk result (λ r. r.items ≡ items.now) }
 {
-    let Ok(mut copies) = Vec::with_capacity(alloc, items.len().saturating_add(1)) else {
+    let Ok(mut copies) = Vec::with_capacity(alloc, items.len().saturating_add(room)) else {
         return Err(Memory);
     };
     for item in items {
@@ -53,15 +56,20 @@ fn copies_of<T: Clone>(alloc: Global, items: &[T]) -> Result<Vec<T>, Memory>
     Ok(copies)
 }
 
-// Makes the list one that no other value shares, to write to by `Arc::get_mut`.
-pub fn own<T: Clone>(alloc: Global, held: &mut Option<Arc<Vec<T>>>) -> Result<(), Memory>
+/// Makes the list one that no other value shares, to write to by `Arc::get_mut`. A list that is made
+/// or copied for it has room for so many items more.
+pub fn own<T: Clone>(
+    alloc: Global,
+    held: &mut Option<Arc<Vec<T>>>,
+    room: usize,
+) -> Result<(), Memory>
     requires exact { (x y : T) → T.is_clone x y → y ≡ x }
     ensures { held_items held.new ≡ held_items held.old }
 {
     if is_own(held) {
         return Ok(());
     }
-    let copies = copies_of(alloc, shown(held))?;
+    let copies = copies_of(alloc, shown(held), room)?;
     match Arc::new(alloc, copies) {
         Ok(list) => {
             *held = Some(list);
@@ -71,6 +79,7 @@ pub fn own<T: Clone>(alloc: Global, held: &mut Option<Arc<Vec<T>>>) -> Result<()
     }
 }
 
+/// Adds an item at the end, where a list has room for four at first.
 pub fn push_on<T: Clone>(
     alloc: Global,
     held: &mut Option<Arc<Vec<T>>>,
@@ -80,7 +89,7 @@ pub fn push_on<T: Clone>(
     ensures items { held_items held.new ≡ (if is_ok result then held_items held.old ++ item ∷ [] else held_items held.old) }
     ensures back { IfErr result (λ refused. refused.back ≡ item) }
 {
-    if let Err(_) = own(alloc, held) {
+    if let Err(_) = own(alloc, held, 4) {
         return Err(Refused { back: item });
     }
     match held {

@@ -1,5 +1,5 @@
 // A whole number within the range that a double holds exactly.
-ghost use Rattle.std.specs.Prelude.{◌≡◌, OnOk, ℤ, ◌+ℤ◌, ◌-ℤ◌, ◌*ℤ◌, if◌then◌else◌, int_div, pos, false};
+ghost use Rattle.std.specs.Prelude.{◌≡◌, IfOk, OnOk, ℤ, ◌+ℤ◌, ◌-ℤ◌, ◌*ℤ◌, if◌then◌else◌, int_div, pos, false};
 ghost use Rattle.std.specs.Ordering.{int_eq};
 ghost use Rattle.reql_datum.specs.Whole.{is_in, IsIn};
 ghost use Rattle.reql_datum.specs.Arithmetic.{held, quotient, remainder};
@@ -8,16 +8,23 @@ use std::marker::Model;
 
 const MOST: i64 = 9007199254740992;
 
-// A whole number in the range. Its contracts see the number.
+/// A whole number of -2^53 to 2^53, the range in which a double holds each whole number exactly.
+///
+/// Contracts see the number. Arithmetic is exact over the integers or refused by its cause, and
+/// takes no memory.
 #[derive(Clone, Copy)]
 pub struct Whole {
     n: i64,
 }
 
+/// Why arithmetic on whole numbers gives none.
 #[derive(Clone, Copy, PartialEq, Eq, Debug)]
 pub enum NumFault {
+    /// The result leaves the range.
     OverRange,
+    /// The divisor is 0.
     ZeroDivisor,
+    /// The quotient leaves a remainder.
     NotWhole,
 }
 
@@ -35,6 +42,7 @@ impl Model for Whole {
 }
 
 impl Whole {
+    /// The number, or None outside the range.
     pub fn new(n: i64) -> Option<Whole>
         ensures { result ≡ (if is_in n then Some n else None) }
     {
@@ -45,6 +53,7 @@ impl Whole {
         }
     }
 
+    /// The number as an integer of 64 bits.
     pub fn get(self) -> i64
         ensures value { result ≡ self }
         ensures in_range { IsIn result }
@@ -52,18 +61,21 @@ impl Whole {
         self.n
     }
 
+    /// The sum.
     pub fn add(self, other: Whole) -> Result<Whole, NumFault>
         ensures { result ≡ held (self +ℤ other) }
     {
         in_range(self.get() + other.get())
     }
 
+    /// The difference.
     pub fn sub(self, other: Whole) -> Result<Whole, NumFault>
         ensures { result ≡ held (self -ℤ other) }
     {
         in_range(self.get() - other.get())
     }
 
+    /// The product.
     pub fn mul(self, other: Whole) -> Result<Whole, NumFault>
         ensures { result ≡ held (self *ℤ other) }
     {
@@ -73,8 +85,11 @@ impl Whole {
         }
     }
 
+    /// The quotient, where it is exact.
+    #[tactic(auto, using(crate::proofs::Arithmetic::quotient_exact))]
     pub fn div(self, other: Whole) -> Result<Whole, NumFault>
-        ensures { result ≡ quotient self other }
+        ensures value { result ≡ quotient self other }
+        ensures exact { IfOk result (λ q. q *ℤ other ≡ self) }
     {
         let left = self.rem(other)?;
         if left.get() != 0 {
@@ -90,6 +105,7 @@ impl Whole {
         in_range(self.get() / other.get())
     }
 
+    /// What is left of the dividend, with its sign.
     pub fn rem(self, other: Whole) -> Result<Whole, NumFault>
         ensures value { result ≡ remainder self other }
         ensures divisor { OnOk result (int_eq other (pos 0) ≡ false) }
