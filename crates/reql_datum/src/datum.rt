@@ -7,7 +7,7 @@ use crate::blob::Blob;
 use crate::edit::{put_in, remove_in, value_in};
 use crate::moment::Moment;
 use crate::name::Name;
-use crate::shared::{copied, own, push_on, shown};
+use crate::shared::{copied, own, push_on, roomy, shown};
 use crate::whole::Whole;
 use reql_memory::{Memory, Refused};
 use std::alloc::{AllocError, Global};
@@ -120,6 +120,14 @@ impl Items {
         Items { alloc, held: None }
     }
 
+    /// The list of nothing, with room for so many items.
+    pub fn with_room(alloc: Global, room: usize) -> Result<Items, Memory>
+        ensures { IfOk result (λ items. items ≡ []) }
+    {
+        let held = roomy(alloc, room)?;
+        Ok(Items { alloc, held })
+    }
+
     /// The items as a slice.
     pub fn as_slice(&self) -> &[Datum]
         ensures { map plain result.now ≡ self.now }
@@ -226,6 +234,14 @@ impl Fields {
         ensures { result ≡ [] }
     {
         Fields { alloc, held: None }
+    }
+
+    /// The object without members, with room for so many.
+    pub fn with_room(alloc: Global, room: usize) -> Result<Fields, Memory>
+        ensures { IfOk result (λ fields. fields ≡ []) }
+    {
+        let held = roomy(alloc, room)?;
+        Ok(Fields { alloc, held })
     }
 
     fn members(&self) -> &[Field]

@@ -17,6 +17,22 @@ pub fn shown<T>(held: &Option<Arc<Vec<T>>>) -> &[T]
     }
 }
 
+/// A list of nothing with room for so many items, which takes no memory where that is none.
+pub fn roomy<T: Drop>(alloc: Global, room: usize) -> Result<Option<Arc<Vec<T>>>, Memory>
+    ensures { IfOk result (λ held. held_items held ≡ []) }
+{
+    if room == 0 {
+        return Ok(None);
+    }
+    let Ok(list) = Vec::with_capacity(alloc, room) else {
+        return Err(Memory);
+    };
+    match Arc::new(alloc, list) {
+        Ok(list) => Ok(Some(list)),
+        Err(_) => Err(Memory),
+    }
+}
+
 /// A field that shares the list. Memory where the count of sharers is full.
 pub fn copied<T>(held: &Option<Arc<Vec<T>>>) -> Result<Option<Arc<Vec<T>>>, Memory>
     ensures { IfOk result (λ copy. held_items copy ≡ held_items held.now) }
