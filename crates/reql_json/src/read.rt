@@ -1,21 +1,29 @@
 // From a JSON value to a document.
-ghost use Rattle.std.specs.Prelude.{◌≡◌};
+ghost use Rattle.std.specs.Prelude.{◌≡◌, IfOk};
 ghost use Rattle.serde_json.specs.Find.{as_integer};
 ghost use Rattle.serde_json.specs.View.{view, number_view, items_view, members_view};
 ghost use Rattle.reql_datum.specs.View.{plain};
 ghost use Rattle.reql_json.specs.Reading.{Reads, document, whole, documents, members};
 
 use crate::fault::JsonFault;
-use reql_datum::{Datum, Fields, Items, Name, Whole};
+use reql_datum::{Datum, Fields, Items, Memory, Name, Whole};
 use serde_json::{Map, Number, Value};
 use std::alloc::Global;
 
 /// The document that a JSON value stands for.
 ///
 /// The fault is the first in the order of reading: an object's own name `$reql_type$` before its
-/// members, members by name, items in order.
-#[cycle(document)]
+/// members, members by name, items in order. Objects that follow one another in a list share the
+/// names that they have at like places.
 pub fn from_value(alloc: Global, v: &Value) -> Result<Datum, JsonFault>
+    ensures { Reads plain result (document (view v.now)) }
+{
+    read(alloc, v, None)
+}
+
+// `like` is a document that was read before and may have the same names.
+#[cycle(document)]
+fn read(alloc: Global, v: &Value, like: Option<&Datum>) -> Result<Datum, JsonFault>
     ensures { Reads plain result (document (view v.now)) }
 {
     match v {
@@ -23,12 +31,12 @@ pub fn from_value(alloc: Global, v: &Value) -> Result<Datum, JsonFault>
         Value::Bool(b) => Ok(Datum::Bool(*b)),
         Value::Number(n) => Ok(Datum::Num(whole(n)?)),
         Value::String(text) => Ok(Datum::Text(Name::of(alloc, text.as_str())?)),
-        Value::Array(items) => Ok(Datum::List(list(alloc, items)?)),
+        Value::Array(items) => Ok(Datum::List(list(alloc, items, first_like(like))?)),
         Value::Object(members) => {
             if v.get("$reql_type$").is_some() {
                 return Err(JsonFault::Reserved);
             }
-            Ok(Datum::Obj(object(alloc, members)?))
+            Ok(Datum::Obj(object(alloc, members, like)?))
         }
     }
 }
@@ -43,26 +51,59 @@ fn whole(n: &Number) -> Result<Whole, JsonFault>
     Whole::new(z).ok_or(JsonFault::OverRange)
 }
 
+fn first_like(like: Option<&Datum>) -> Option<&Datum> {
+    match like {
+        Some(Datum::List(items)) => items.at(0),
+        _ => None,
+    }
+}
+
 #[cycle(document)]
-fn list(alloc: Global, items: &Vec<Value>) -> Result<Items, JsonFault>
+fn list(alloc: Global, items: &Vec<Value>, first: Option<&Datum>) -> Result<Items, JsonFault>
     ensures { Reads (λ vs. vs) result (documents (items_view items.now.items)) }
 {
-    let mut out = Items::new(alloc);
+    let mut out = Items::with_room(alloc, items.len())?;
     for item in items {
-        let datum = from_value(alloc, item)?;
+        let datum = read(alloc, item, out.as_slice().last().or(first))?;
         out.push(datum)?;
     }
     Ok(out)
 }
 
+fn member_like(like: Option<&Datum>, place: usize) -> (Option<&Name>, Option<&Datum>) {
+    if let Some(Datum::Obj(fields)) = like {
+        if let Some((name, value)) = fields.at(place) {
+            return (Some(name), Some(value));
+        }
+    }
+    (None, None)
+}
+
+// The name that is known, if it is the key.
+fn name_of(alloc: Global, key: &str, known: Option<&Name>) -> Result<Name, Memory>
+    ensures { IfOk result (λ n. n ≡ key.now) }
+{
+    if let Some(name) = known {
+        if name.as_str() == key {
+            return name.copy();
+        }
+    }
+    Name::of(alloc, key)
+}
+
 #[cycle(document)]
-fn object(alloc: Global, held: &Map<String, Value>) -> Result<Fields, JsonFault>
+fn object(
+    alloc: Global,
+    held: &Map<String, Value>,
+    like: Option<&Datum>,
+) -> Result<Fields, JsonFault>
     ensures { Reads (λ ms. ms) result (members (members_view held.now.entries)) }
 {
-    let mut out = Fields::new(alloc);
+    let mut out = Fields::with_room(alloc, held.len())?;
     for (key, member) in held.iter() {
-        let name = Name::of(alloc, key.as_str())?;
-        let datum = from_value(alloc, member)?;
+        let (known, value) = member_like(like, out.len());
+        let name = name_of(alloc, key.as_str(), known)?;
+        let datum = read(alloc, member, value)?;
         drop(out.put(name, datum)?);
     }
     Ok(out)
