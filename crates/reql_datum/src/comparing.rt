@@ -96,8 +96,8 @@ fn compare_fields(ms: &Fields, ns: &Fields) -> Ordering
                     return answer;
                 }
             }
-            (None, Some(_)) => return Ordering::Less,
-            (Some(_), None) => return Ordering::Greater,
+            (None, Some(..)) => return Ordering::Less,
+            (Some(..), None) => return Ordering::Greater,
             (None, None) => return Ordering::Equal,
         }
         place += 1;

@@ -1,6 +1,9 @@
-use crate::{
+use reql_datum::{
     Blob, Datum, Fields, Items, Memory, Moment, Name, NumFault, Refused, Seq, Whole, compare,
+    order_laws, zone_laws,
 };
+use reql_json::{from_value, text, to_value};
+use serde_json::Value;
 use std::alloc::Global;
 use std::cmp::Ordering;
 use std::test::Fail;
@@ -25,7 +28,7 @@ fn sample(alloc: Global) -> Result<Fields, Memory> {
 }
 
 #[test]
-fn keeps_names_in_order(rt: HostRuntime) -> Result<(), Fail> {
+fn names_rise_and_a_copy_stays(rt: HostRuntime) -> Result<(), Fail> {
     let mut fields = sample(rt.alloc())?;
     assert_eq!(rt; fields.len(), 4);
     assert!(rt; matches!(fields.get("b"), Some(Datum::Num(n)) if n.get() == 5));
@@ -40,55 +43,52 @@ fn keeps_names_in_order(rt: HostRuntime) -> Result<(), Fail> {
 }
 
 #[test]
-fn copies_and_compares(rt: HostRuntime) -> Result<(), Fail> {
-    let one = Datum::Obj(sample(rt.alloc())?);
-    let other = one.copy()?;
-    assert!(rt; compare(&one, &other) == Ordering::Equal);
-    assert!(rt; compare(&Datum::Null, &other) == Ordering::Less);
-    assert_eq!(rt; one.depth(), 1);
-    assert!(rt; !one.is_key());
-    Ok(())
-}
-
-#[test]
-fn divides(rt: HostRuntime) -> Result<(), Fail> {
-    let (seven, two) = (
-        Whole::new(-7).ok_or("range")?,
-        Whole::new(2).ok_or("range")?,
+fn arithmetic_is_exact_or_refused(rt: HostRuntime) -> Result<(), Fail> {
+    let (over, zero, not_whole) = (
+        NumFault::OverRange,
+        NumFault::ZeroDivisor,
+        NumFault::NotWhole,
     );
-    assert!(rt; matches!(seven.div(two), Err(NumFault::NotWhole)));
-    assert!(rt; matches!(seven.rem(two), Ok(n) if n.get() == -1));
-    assert!(rt; Whole::new(9007199254740993).is_none());
+    let most = 9007199254740992;
+    let rows = [
+        (7, 2, Ok(9), Ok(5), Ok(14), Err(not_whole), Ok(1)),
+        (-7, 2, Ok(-5), Ok(-9), Ok(-14), Err(not_whole), Ok(-1)),
+        (7, -2, Ok(5), Ok(9), Ok(-14), Err(not_whole), Ok(1)),
+        (6, -2, Ok(4), Ok(8), Ok(-12), Ok(-3), Ok(0)),
+        (5, 0, Ok(5), Ok(5), Ok(0), Err(zero), Err(zero)),
+        (most, 1, Err(over), Ok(most - 1), Ok(most), Ok(most), Ok(0)),
+        (-most, most, Ok(0), Err(over), Err(over), Ok(-1), Ok(0)),
+    ];
+    for (a, b, sum, difference, product, quotient, rest) in rows {
+        let a = Whole::new(a).ok_or("range")?;
+        let b = Whole::new(b).ok_or("range")?;
+        assert_eq!(rt; a.add(b).map(Whole::get), sum);
+        assert_eq!(rt; a.sub(b).map(Whole::get), difference);
+        assert_eq!(rt; a.mul(b).map(Whole::get), product);
+        assert_eq!(rt; a.div(b).map(Whole::get), quotient);
+        assert_eq!(rt; a.rem(b).map(Whole::get), rest);
+    }
+    assert!(rt; Whole::new(most + 1).is_none());
+    assert!(rt; Whole::new(-most - 1).is_none());
     Ok(())
 }
 
 #[test]
-fn pushes(rt: HostRuntime) -> Result<(), Fail> {
-    let mut seq = Seq::new(rt.alloc());
-    assert!(rt; seq.push(3u8).is_ok());
-    assert_eq!(rt; seq.len(), 1);
-    let mut items = Items::new(rt.alloc());
-    assert!(rt; items.push(Datum::Low).is_ok());
-    assert!(rt; items.at(0).is_some());
-    let held = seq.into_vec();
-    assert_eq!(rt; held.len(), 1);
-    Ok(())
-}
-
-#[test]
-fn pushes_on_a_shared_list(rt: HostRuntime) -> Result<(), Fail> {
+fn a_shared_list_is_copied_when_it_is_written_to(rt: HostRuntime) -> Result<(), Fail> {
     let mut items = Items::new(rt.alloc());
     assert!(rt; items.push(Datum::Low).is_ok());
     let shared = items.copy()?;
     assert!(rt; items.push(Datum::High).is_ok());
-    assert_eq!(rt; shared.len(), 1);
-    assert_eq!(rt; items.len(), 2);
+    assert_eq!(rt; (shared.len(), items.len()), (1, 2));
     assert!(rt; matches!(items.at(0), Some(Datum::Low)));
+    let mut seq = Seq::new(rt.alloc());
+    assert!(rt; seq.push(3u8).is_ok());
+    assert_eq!(rt; seq.into_vec().as_slice(), [3].as_slice());
     Ok(())
 }
 
 #[test]
-fn orders_times_and_bytes(rt: HostRuntime) -> Result<(), Fail> {
+fn times_and_bytes_stand_in_order(rt: HostRuntime) -> Result<(), Fail> {
     let at = Whole::new(3).ok_or("range")?;
     let east = Datum::Time(Moment::of(at, 90).ok_or("zone")?);
     let near = Datum::Time(Moment::of(at, -1).ok_or("zone")?);
@@ -96,10 +96,63 @@ fn orders_times_and_bytes(rt: HostRuntime) -> Result<(), Fail> {
     let bytes = Datum::Binary(Blob::of(rt.alloc(), &[1, 2])?);
     let longer = Datum::Binary(Blob::of(rt.alloc(), &[1, 2, 0])?);
     assert!(rt; Moment::of(at, 1440).is_none());
-    assert!(rt; compare(&east, &near) == Ordering::Less);
-    assert!(rt; compare(&near, &west) == Ordering::Less);
-    assert!(rt; compare(&bytes, &longer) == Ordering::Less);
-    assert!(rt; compare(&longer, &east) == Ordering::Less);
-    assert!(rt; west.is_key());
+    assert!(rt; east < near && near < west && bytes < longer && longer < east);
+    assert!(rt; compare(&west, &west.copy()?) == Ordering::Equal);
+    assert!(rt; west.is_key() && !Datum::Null.is_key());
+    order_laws();
+    zone_laws();
+    Ok(())
+}
+
+fn read(alloc: Global, source: &str) -> Result<Datum, Fail> {
+    Ok(from_value(alloc, &Value::from_str(alloc, source)?)?)
+}
+
+fn sorted(alloc: Global, list: &Items) -> Result<Items, Memory> {
+    let mut held = Vec::new(alloc);
+    for item in list.as_slice() {
+        if let Err(_) = held.push(item.copy()?) {
+            return Err(Memory);
+        }
+    }
+    if let Err(_) = held.sort() {
+        return Err(Memory);
+    }
+    let mut items = Items::with_room(alloc, held.len())?;
+    for item in held {
+        if let Err(_) = items.push(item) {
+            return Err(Memory);
+        }
+    }
+    Ok(items)
+}
+
+#[test]
+fn all_kinds_are_sorted(rt: HostRuntime) -> Result<(), Fail> {
+    let alloc = rt.alloc();
+    let rows = [
+        (
+            "[\"a\",\"\",{},null,[],true,-1,false]",
+            "[[],false,true,null,-1,{},\"\",\"a\"]",
+        ),
+        (
+            "[{\"a\":1,\"b\":0},{\"b\":0},{\"a\":1},{\"a\":0,\"b\":1}]",
+            "[{\"a\":0,\"b\":1},{\"a\":1},{\"a\":1,\"b\":0},{\"b\":0}]",
+        ),
+        (
+            "[[1,2],[1],[0,9],\"b\",\"ab\",10,9]",
+            "[[0,9],[1],[1,2],9,10,\"ab\",\"b\"]",
+        ),
+    ];
+    for (source, want) in rows {
+        if let Datum::List(list) = read(alloc, source)? {
+            let shown = to_value(alloc, &Datum::List(sorted(alloc, &list)?))?;
+            assert_eq!(rt;
+                text(alloc, &shown)?.as_slice(),
+                want.as_bytes(),
+                "{source}"
+            );
+        }
+    }
     Ok(())
 }

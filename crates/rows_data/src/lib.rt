@@ -2,4 +2,8 @@
 #![tactic(auto)]
 
 #[cfg(test)]
+mod datum;
+#[cfg(test)]
 mod json;
+#[cfg(test)]
+mod size;
