@@ -1,10 +1,9 @@
 -- The members that an object holds, beside the map that it is seen as.
-use Rattle.std.proofs.Common.{◌≡◌, ℕ, zero, suc, ◌<◌, List, [], ◌∷◌, length, get_or, set, map, Some, Result, IfOk, IfErr, refl, sym, ap, ◌∙◌, arith, ◌-◌, slice_get, Ordering, Less, Equal, Greater, true}
+use Rattle.std.proofs.Common.{◌≡◌, ℕ, zero, suc, ◌<◌, List, [], ◌∷◌, length, get_or, set, map, Some, Result, IfOk, IfErr, refl, sym, ap, ◌∙◌, ◌-◌, slice_get, Ordering, Less, Equal, Greater, true}
 use Rattle.std.specs.List.{insert, remove}
-use Rattle.std.specs.List.Sorted.{IsSearchInRange, IsBinarySearchResult, IsStrictlySortedBy}
+use Rattle.std.specs.List.Sorted.{IsSearchInRange, IsBinarySearchResult}
 use Rattle.std.specs.Map.{keys_of}
 use Rattle.std.specs.Ordering.{is_lt}
-use Rattle.std.proofs.lemmas.Cmp.{nat_list_cmp_total}
 use Rattle.std.proofs.lemmas.List.{get_or-map, map-set}
 use Rattle.reql_datum.specs.Plain.{Plain}
 use Rattle.reql_datum.specs.View.{plain, member}

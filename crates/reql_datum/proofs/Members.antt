@@ -1,5 +1,5 @@
 -- The same of names in the order of their bytes.
-use Rattle.std.proofs.Common.{◌≡◌, ℕ, ◌<◌, ◌≤◌, ◌-◌, List, [], ◌∷◌, ◌++◌, length, get_or, slice_get, set, map, Some, None, Result, IfOk, IfErr, Less, Greater}
+use Rattle.std.proofs.Common.{◌≡◌, ℕ, ◌-◌, List, [], ◌∷◌, ◌++◌, length, get_or, slice_get, set, map, Some, None, Result, IfOk, IfErr, Less, refl, ap}
 use Rattle.std.specs.List.{insert, remove}
 use Rattle.std.specs.List.Sorted.{IsStrictlySortedBy, IsSearchInRange, IsBinarySearchResult}
 use Rattle.std.specs.Map.{keys_of}
@@ -45,3 +45,19 @@ module _ {X : Type 0} (key : X → List ℕ) (k : List ℕ) where
 
   pub gap_last : (xs : List X) (x : X) → IsStrictlySortedBy text_order (map key xs) → Some x ≡ slice_get xs (length xs - 1) → text_order (key x) k ≡ Less → IsGap (map key xs) k (length xs)
   gap_last = sorted.gap_last text_order nat_list_cmp_total key k
+
+module _ {V : Type 0} where
+  pub rising_rest : (m : List ℕ × V) (ms : List (List ℕ × V)) → AreRising (m ∷ ms) → AreRising ms
+  rising_rest = sorted.rising_rest text_order nat_list_cmp_total
+
+  -- a name is not among those after it
+  pub not_later : (k : List ℕ) (v : V) (ms : List (List ℕ × V)) → AreRising ((k, v) ∷ ms) → find k ms ≡ None
+  not_later = sorted.not_later text_order nat_list_cmp_total
+
+-- the members with each value changed
+same_names : {V W : Type 0} (f : V → W) (ms : List (List ℕ × V)) → keys_of (map (λ m. (m.0, f m.1)) ms) ≡ keys_of ms
+same_names f [] = refl
+same_names f (m ∷ ms) = ap (λ t. m.0 ∷ t) (same_names f ms)
+
+pub rising_values : {V W : Type 0} (f : V → W) (ms : List (List ℕ × V)) → AreRising ms → AreRising (map (λ m. (m.0, f m.1)) ms)
+rising_values f ms up = rw (same_names f ms) up

@@ -201,3 +201,12 @@ module _ {K : Type 0} (cmp : K → K → Ordering) (total : IsTotalOrder cmp) wh
     -- a step of a loop that builds a map by rising keys: what is done, and what is still to come, is the whole
     pub put_step : (done rest all : List (K × V)) (k : K) (v : V) → AreRisingBy cmp all → done ++ (k, v) ∷ rest ≡ all → put_by cmp k v done ++ rest ≡ all
     put_step done rest all k v up is = ap (λ t. t ++ rest) (put_next done rest k v (rw is up)) ∙ append_assoc done ((k, v) ∷ []) rest ∙ is
+
+    pub rising_rest : (m : K × V) (ms : List (K × V)) → AreRisingBy cmp (m ∷ ms) → AreRisingBy cmp ms
+    unfolding IsStrictlySortedBy
+    rising_rest m ms up = up.1
+
+    -- a key is not among those after it
+    pub not_later : (k : K) (v : V) (ms : List (K × V)) → AreRisingBy cmp ((k, v) ∷ ms) → find_by cmp k ms ≡ None
+    unfolding IsStrictlySortedBy
+    not_later k v ms up = find_below k ms up.0
