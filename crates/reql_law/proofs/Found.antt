@@ -8,7 +8,7 @@ use Rattle.reql_datum.specs.Plain.{Plain}
 use Rattle.reql_datum.specs.Order.{order}
 use Rattle.reql_datum.specs.Sorted.{AreRisingBy, find_by, IsHitBy, IsGapBy}
 use Rattle.reql_datum.specs.View.{plain}
-use Rattle.reql_datum.proofs.Total.{order_total}
+use Rattle.reql_datum.specs.Total.{order_total}
 use Rattle.reql_datum.proofs.Sorted as sorted
 use Rattle.reql_datum.specs.Keys.{is_key}
 use Rattle.reql_datum.specs.Members.{find}

@@ -6,7 +6,7 @@ use Rattle.reql_datum.specs.Plain.{Plain}
 use Rattle.reql_datum.specs.Order.{order}
 use Rattle.reql_datum.specs.Sorted.{put_by, IsGapBy}
 use Rattle.reql_datum.specs.View.{plain}
-use Rattle.reql_datum.proofs.Total.{order_total}
+use Rattle.reql_datum.specs.Total.{order_total}
 use Rattle.reql_datum.proofs.Sorted as sorted
 use Rattle.reql_law.specs.Write.{Inserts, Errs, verdict_of, inserted_by}
 use Rattle.reql_law.specs.Machine.{Table, empty, after, after_cmd, replay_from, replay}
