@@ -1,0 +1,177 @@
+-- The recvs of a greeting one after another, and what becomes of it then.
+use Rattle.std.proofs.Common.{◌≡◌, ℕ, ◌+◌, ◌-◌, ◌*◌, ◌≤◌, ◌<◌, ◌⊎◌, inl, inr, List, [], ◌∷◌, ◌++◌, length, take, drop, Bool, true, false, refl, sym, ap, subst, ◌∙◌, arith, append-nil, add-zero, length-append}
+use Rattle.std.proofs.lemmas.List.{take-append-drop, drop-take}
+use Rattle.std.proofs.Math.Seq.{drop-append-add}
+use Rattle.reql_outside.specs.Tape.{Tape, Moves, Rose}
+use Rattle.reql_outside.proofs.Moving.{moves_on, moves_next, rose_later}
+use Rattle.reql_wire.specs.Greeting.{greeting_bytes, accepted, refusal}
+use Rattle.reql_wire.specs.declared.greeter.GreetFault.TheVariants as faults
+use Rattle.reqld.specs.Greeted.{AreAccepted, AreRefused, AreShort, IsFront, SaysFront, WhyGreeted, Accepts, EndsEarly, Greets_with, Waits, Hears, Accepting, Refusing}
+use Rattle.reqld.specs.declared.ending.End.{End}
+use Rattle.reqld.specs.declared.ending.End.TheVariants as ends
+use Rattle.reqld.specs.declared.greeting.Heard.TheVariants as heard
+use Rattle.reqld.specs.declared.greeting.Greeted.{Greeted}
+use Rattle.reqld.specs.declared.greeting.Greeted.TheVariants as greeted
+use Rattle.reqld.proofs.Joined.{same_moves}
+
+-- what follows a whole greeting in its last piece
+pub followed : (before buf held : List ℕ) (n used : ℕ) → length before < 12 → 12 ≤ length (before ++ take n buf) → take 12 (before ++ take n buf) ≡ greeting_bytes → used ≡ 12 - length before → used ≤ n
+    → held ≡ take (n - used) (drop used buf) → before ++ take n buf ≡ greeting_bytes ++ held
+followed before buf held n used short whole is at fits rest =
+    let e : length before + used ≡ 12 = omega arith in
+    let f : used + (n - used) ≡ n = omega arith in
+    let later : drop 12 (before ++ take n buf) ≡ drop used (take n buf) = subst (λ k. drop k (before ++ take n buf) ≡ drop used (take n buf)) e (drop-append-add before (take n buf) used) in
+    let cut : drop used (take n buf) ≡ take (n - used) (drop used buf) = subst (λ k. drop used (take k buf) ≡ take (n - used) (drop used buf)) f (drop-take used (n - used) buf) in
+    sym (take-append-drop 12 (before ++ take n buf)) ∙ ap (λ t. t ++ drop 12 (before ++ take n buf)) is ∙ ap (λ t. greeting_bytes ++ t) (later ∙ cut ∙ sym rest)
+
+-- and then something is said
+then_said : (a b c : Tape) (h s t : List ℕ) (i : ℕ) → Moves a b h s i a.over → Moves b c [] t 0 b.over → Moves a c h (s ++ t) i a.over
+then_said a b c h s t i x y =
+    subst (λ k. Moves a c k (s ++ t) i a.over) (append-nil h) (subst (λ j. Moves a c (h ++ []) (s ++ t) j a.over) (add-zero i) (moves_next a b c h s [] t i 0 x y))
+
+-- and then something is heard
+then_heard : (a b c : Tape) (h k : List ℕ) (i : ℕ) → Moves a b h [] i a.over → Moves b c k [] 0 b.over → Moves a c (h ++ k) [] i a.over
+then_heard a b c h k i x y = subst (λ j. Moves a c (h ++ k) [] j a.over) (add-zero i) (moves_next a b c h [] k [] i 0 x y)
+
+accepted_by : (bytes held : List ℕ) → bytes ≡ greeting_bytes ++ held → AreAccepted bytes
+accepted_by bytes held is = rw is (omega (arith, length-append greeting_bytes held), refl, refl)
+
+over_now : (a b : Tape) (h s : List ℕ) (i : ℕ) (o : Bool) → Moves a b h s i o → Moves a b h s i b.over
+over_now a b h s i o x = subst (λ p. Moves a b h s i p) (sym x.ended) x
+
+pub waits_none : (a : Tape) → Waits a a [] 0
+waits_none a = record { idles = 0; moves = same_moves a; short = omega arith; pays = omega arith }
+
+pub waits_more : (a b c : Tape) (h k held : List ℕ) (used : ℕ) → Waits a b h used → Hears b c h k held heard.More → Waits a c k (used + 1)
+waits_more a b c h k held used w x = record {
+  idles = w.idles + x.1;
+  moves = subst (λ t. Moves a c t [] (w.idles + x.1) a.over) (sym x.3) (moves_next a b c h [] x.0 [] w.idles x.1 w.moves x.2);
+  short = x.4;
+  pays = omega (arith, w.pays, x.5, ap length x.3, length-append h x.0);
+}
+
+pub waits_worn : (a b : Tape) (h : List ℕ) (turns : ℕ) → Waits a b h turns → EndsEarly a b turns ends.Worn
+waits_worn a b h turns w = record {
+  heard = h;
+  said = [];
+  idles = w.idles;
+  moves = over_now a b h [] w.idles a.over w.moves;
+  why = (w.moves.ended, inl (w.short, refl));
+  worn = λ e. omega (arith, w.pays);
+}
+
+-- and then nothing more
+quiet : (a b c : Tape) (h : List ℕ) (i : ℕ) (o p : Bool) → Moves a b h [] i o → Moves b c [] [] 0 p → Moves a c h [] i c.over
+quiet a b c h i o p x y =
+    over_now a c h [] i p (subst (λ t. Moves a c t [] i p) (append-nil h) (subst (λ j. Moves a c (h ++ []) [] j p) (add-zero i) (moves_on a b c h [] [] [] i 0 o p x y)))
+
+pub ended_after : (a b c : Tape) (h k held : List ℕ) (used turns : ℕ) (end : End) → Waits a b h used → Hears b c h k held (heard.Ended end) → EndsEarly a c turns end
+ended_after a b c h k held used turns ends.Closed w x = record {
+  heard = h;
+  said = [];
+  idles = w.idles;
+  moves = quiet a b c h w.idles a.over true w.moves x.1;
+  why = (x.1.ended, x.0, refl);
+  worn = λ e. absurd (let f : ends.Closed ≡ ends.Worn = e in cc);
+}
+ended_after a b c h k held used turns (ends.Cut n) w x = record {
+  heard = h;
+  said = [];
+  idles = w.idles;
+  moves = quiet a b c h w.idles a.over true w.moves x.2;
+  why = (x.2.ended, w.short, x.0, x.1, refl);
+  worn = λ e. absurd (let f : ends.Cut n ≡ ends.Worn = e in cc);
+}
+ended_after a b c h k held used turns ends.ReadFault w x = record {
+  heard = h;
+  said = [];
+  idles = w.idles;
+  moves = quiet a b c h w.idles a.over b.over w.moves x.0;
+  why = (x.0.ended ∙ w.moves.ended, w.short, rose_later _ _ _ w.moves.in_later x.1, refl);
+  worn = λ e. absurd (let f : ends.ReadFault ≡ ends.Worn = e in cc);
+}
+ended_after a b c h k held used turns ends.Memory w x = record {
+  heard = h ++ x.0;
+  said = [];
+  idles = w.idles;
+  moves = over_now a c (h ++ x.0) [] w.idles a.over (then_heard a b c h x.0 w.idles w.moves x.1);
+  why = (x.1.ended ∙ w.moves.ended, inr (inl (x.2, (accepted, refl))));
+  worn = λ e. absurd (let f : ends.Memory ≡ ends.Worn = e in cc);
+}
+ended_after a b c h k held used turns ends.Refused w x = absurd x
+ended_after a b c h k held used turns (ends.TooLong n) w x = absurd x
+ended_after a b c h k held used turns ends.WriteFault w x = absurd x
+ended_after a b c h k held used turns ends.Worn w x = absurd x
+
+pub accepted_after : (a b c d : Tape) (h k held : List ℕ) (used turns : ℕ) (r : Greeted) → used < turns → Waits a b h used → Hears b c h k held heard.Accepted → Accepting c d (turns - used - 1) r → Greets_with a d held turns r
+accepted_after a b c d h k held used turns (greeted.Accepted l) lt w x y = record {
+  heard = h ++ x.0;
+  idles = w.idles;
+  moves = then_said a c d (h ++ x.0) [] accepted w.idles (then_heard a b c h x.0 w.idles w.moves x.1) y.0;
+  bytes = x.2;
+  pays = omega (arith, w.pays, x.3, y.1, length-append h x.0);
+}
+accepted_after a b c d h k held used turns (greeted.Ended ends.WriteFault) lt w x y =
+    let m = then_heard a b c h x.0 w.idles w.moves x.1 in
+    record {
+      heard = h ++ x.0;
+      said = y.0;
+      idles = w.idles;
+      moves = over_now a d (h ++ x.0) y.0 w.idles a.over (then_said a c d (h ++ x.0) [] y.0 w.idles m y.3);
+      why = (y.3.ended ∙ m.ended, rose_later _ _ _ m.out_later y.4, inr (inl (accepted_by (h ++ x.0) held x.2, (y.1, y.2))));
+      worn = λ e. absurd (let f : ends.WriteFault ≡ ends.Worn = e in cc);
+    }
+accepted_after a b c d h k held used turns (greeted.Ended ends.Worn) lt w x y =
+    let m = then_heard a b c h x.0 w.idles w.moves x.1 in
+    record {
+      heard = h ++ x.0;
+      said = [];
+      idles = w.idles;
+      moves = over_now a d (h ++ x.0) [] w.idles a.over (then_said a c d (h ++ x.0) [] [] w.idles m y.1);
+      why = (y.1.ended ∙ m.ended, inr (inl (accepted_by (h ++ x.0) held x.2, (accepted, refl))));
+      worn = λ e. omega (arith, w.pays, y.0, length-append h x.0);
+    }
+accepted_after a b c d h k held used turns (greeted.Ended ends.Closed) lt w x y = absurd y
+accepted_after a b c d h k held used turns (greeted.Ended (ends.Cut n)) lt w x y = absurd y
+accepted_after a b c d h k held used turns (greeted.Ended ends.Refused) lt w x y = absurd y
+accepted_after a b c d h k held used turns (greeted.Ended (ends.TooLong n)) lt w x y = absurd y
+accepted_after a b c d h k held used turns (greeted.Ended ends.ReadFault) lt w x y = absurd y
+accepted_after a b c d h k held used turns (greeted.Ended ends.Memory) lt w x y = absurd y
+
+pub refused_after : (a b c d : Tape) (h k held : List ℕ) (used turns : ℕ) (r : Greeted) → used < turns → Waits a b h used → Hears b c h k held heard.Refused → Refusing c d (turns - used - 1) r → Greets_with a d held turns r
+refused_after a b c d h k held used turns (greeted.Accepted l) lt w x y = absurd y
+refused_after a b c d h k held used turns (greeted.Ended ends.Refused) lt w x y =
+    let m = then_heard a b c h x.0 w.idles w.moves x.1 in
+    record {
+      heard = h ++ x.0;
+      said = refusal faults.NotBuilt;
+      idles = w.idles;
+      moves = over_now a d (h ++ x.0) (refusal faults.NotBuilt) w.idles a.over (then_said a c d (h ++ x.0) [] (refusal faults.NotBuilt) w.idles m y);
+      why = (y.ended ∙ m.ended, x.2, refl);
+      worn = λ e. absurd (let f : ends.Refused ≡ ends.Worn = e in cc);
+    }
+refused_after a b c d h k held used turns (greeted.Ended ends.WriteFault) lt w x y =
+    let m = then_heard a b c h x.0 w.idles w.moves x.1 in
+    record {
+      heard = h ++ x.0;
+      said = y.0;
+      idles = w.idles;
+      moves = over_now a d (h ++ x.0) y.0 w.idles a.over (then_said a c d (h ++ x.0) [] y.0 w.idles m y.3);
+      why = (y.3.ended ∙ m.ended, rose_later _ _ _ m.out_later y.4, inr (inr (x.2, (y.1, y.2))));
+      worn = λ e. absurd (let f : ends.WriteFault ≡ ends.Worn = e in cc);
+    }
+refused_after a b c d h k held used turns (greeted.Ended ends.Worn) lt w x y =
+    let m = then_heard a b c h x.0 w.idles w.moves x.1 in
+    record {
+      heard = h ++ x.0;
+      said = [];
+      idles = w.idles;
+      moves = over_now a d (h ++ x.0) [] w.idles a.over (then_said a c d (h ++ x.0) [] [] w.idles m y.1);
+      why = (y.1.ended ∙ m.ended, inr (inr (x.2, (refusal faults.NotBuilt, refl))));
+      worn = λ e. omega (arith, w.pays, y.0, length-append h x.0);
+    }
+refused_after a b c d h k held used turns (greeted.Ended ends.Closed) lt w x y = absurd y
+refused_after a b c d h k held used turns (greeted.Ended (ends.Cut n)) lt w x y = absurd y
+refused_after a b c d h k held used turns (greeted.Ended (ends.TooLong n)) lt w x y = absurd y
+refused_after a b c d h k held used turns (greeted.Ended ends.ReadFault) lt w x y = absurd y
+refused_after a b c d h k held used turns (greeted.Ended ends.Memory) lt w x y = absurd y

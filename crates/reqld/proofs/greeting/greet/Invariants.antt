@@ -1,0 +1,10 @@
+use Rattle.std.proofs.Common.{◌≡◌, []}
+use Rattle.reqld.specs.Greeted.{Waits}
+use Rattle.reqld.proofs.greeting.greet.Given as goal
+
+abbrev pub invariant-loop-used : goal.invariant-loop-used
+invariant-loop-used g l = record {
+  waits : Waits (g.L.Link.tape l.initial.link) (g.L.Link.tape l.link) l.greeter l.used;
+  held : l.feeder.held ≡ [];
+  limit : l.feeder.limit ≡ l.initial.feeder.limit;
+}

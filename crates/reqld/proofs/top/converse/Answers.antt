@@ -1,0 +1,14 @@
+use Rattle.std.proofs.Common.{◌≡◌, ◌∙◌, ap, [], refl}
+use Rattle.reql_wire.specs.Feeding.{Holding}
+use Rattle.reqld.specs.Turns.{World}
+use Rattle.reqld.proofs.Whole.{early, after_greeting, limited}
+use Rattle.reqld.proofs.top.converse.Goals as goal
+
+pub returns-in-Ended : goal.returns-in-Ended
+returns-in-Ended g c = rw c.requires.table (early c.args.setting.now.name.now _ _ c.in-Ended.end c.in-Ended.ensures.greets)
+
+pub returns-in-Accepted : goal.returns-in-Accepted
+returns-in-Accepted g c =
+    let limit = c.greet.ensures.limit ∙ ap (λ (h : Holding). h.limit) c.requires.bytes in
+    after_greeting c.args.setting.now.name.now _ _ _ c.greet.new.feeder.held c.in-Accepted.turns c.serve.new.state.table c.serve.result c.in-Accepted.ensures.greets
+    (rw (limited c.greet.new.feeder limit, c.requires.table) at c.serve.ensures)

@@ -1,0 +1,10 @@
+pub mod Fields
+pub mod Words
+pub mod Query
+pub mod Seen
+pub mod Answers
+pub mod Requests
+pub mod Endings
+pub mod Turns
+pub mod Greeted
+pub mod Promise

@@ -1,0 +1,93 @@
+-- What `run` promises of a whole session: its input and output byte for byte, its history, and when each status comes.
+use Rattle.std.specs.Prelude.{◌≡◌, ℕ, ◌+◌, ◌*◌, ◌^◌, ◌<◌, ◌≤◌, ◌⊎◌, Bool, true, false, List, [], ◌∷◌, ◌++◌, length, Option, Some, None}
+use Rattle.std.specs.List.{AllByRecursion}
+use Rattle.reql_outside.specs.Tape.{Tape, Moves, Rose}
+use Rattle.reql_wire.specs.Frames.{Fits, NoFrame, Over, spellings, More, front}
+use Rattle.reql_wire.specs.Greeting.{greeting_bytes, accepted, refusal}
+use Rattle.reql_wire.specs.declared.frame.Frame.{Frame}
+use Rattle.reql_wire.specs.declared.greeter.GreetFault.TheVariants as faults
+use Rattle.reql_law.specs.declared.command.Entry.{Entry}
+use Rattle.reqld.specs.Endings.{status_of}
+use Rattle.reqld.specs.Greeted.{AreShort, AreRefused}
+use Rattle.reqld.specs.Turns.{Answered, SaysOf}
+use Rattle.reqld.specs.Words.{Asks, Serve, asks}
+use Rattle.reqld.specs.declared.ending.End.{End}
+use Rattle.reqld.specs.declared.ending.End.TheVariants as ends
+
+-- the longest body of a request, in bytes
+abbrev pub longest_request : ℕ
+longest_request = 67108864
+
+-- the table that the words ask to serve
+abbrev pub table_asked : Asks → Option (List ℕ)
+table_asked (Serve table) = Some table
+table_asked a = None
+
+abbrev pub table_of_words : List (List ℕ) → Option (List ℕ)
+table_of_words words = table_asked (asks words)
+
+-- fewer bytes than a greeting came
+pub record Short (heard said : List ℕ) (history : List Entry) (rest : List ℕ) : Type 0 where
+  pub short : AreShort heard
+  pub silent : said ≡ []
+  pub unchanged : history ≡ []
+  pub held : rest ≡ heard
+
+-- another greeting came than the one that is built
+pub record Turned_away (end : End) (heard said : List ℕ) (history : List Entry) : Type 0 where
+  pub refused : AreRefused heard
+  pub output : SaysOf end said (refusal faults.NotBuilt)
+  pub unchanged : history ≡ []
+
+-- what is left of the input after the last whole frame begins no frame, or begins one that is too long
+abbrev pub Unread : End → List ℕ → Type 0
+Unread ends.Closed rest = (front longest_request rest ≡ More) × NoFrame longest_request rest
+Unread (ends.Cut held) rest = (front longest_request rest ≡ More) × NoFrame longest_request rest
+Unread ends.ReadFault rest = (front longest_request rest ≡ More) × NoFrame longest_request rest
+Unread (ends.TooLong len) rest = Over longest_request rest len
+Unread end rest = Unit {0}
+
+-- the greeting came, then these frames, in order, each with its answer and its entry
+pub record Served (table : List ℕ) (end : End) (heard said : List ℕ) (history : List Entry) (rest : List ℕ) : Type 0 where
+  pub frames : List Frame
+  pub answers : List Frame
+  pub input : heard ≡ greeting_bytes ++ (spellings frames ++ rest)
+  pub each : AllByRecursion (Fits longest_request) frames
+  pub output : SaysOf end said (accepted ++ spellings answers)
+  pub answered : Answered table [] frames answers history
+  pub unread : Unread end rest
+
+abbrev pub Course : List ℕ → End → List ℕ → List ℕ → List Entry → List ℕ → Type 0
+Course table ends.Refused heard said history rest = Turned_away ends.Refused heard said history
+Course table (ends.TooLong len) heard said history rest = Served table (ends.TooLong len) heard said history rest
+Course table ends.Closed heard said history rest = Short heard said history rest ⊎ Served table ends.Closed heard said history rest
+Course table (ends.Cut held) heard said history rest = Short heard said history rest ⊎ Served table (ends.Cut held) heard said history rest
+Course table ends.ReadFault heard said history rest = Short heard said history rest ⊎ Served table ends.ReadFault heard said history rest
+Course table end heard said history rest = Short heard said history rest ⊎ (Turned_away end heard said history ⊎ Served table end heard said history rest)
+
+-- when each end comes
+abbrev pub When : End → List ℕ → Tape → Tape → Type 0
+When ends.Closed rest old new = (new.over ≡ true) × (rest ≡ [])
+When (ends.Cut held) rest old new = (new.over ≡ true) × (held ≡ length rest) × (0 < held)
+When ends.ReadFault rest old new = (new.over ≡ old.over) × Rose old.faults_in new.faults_in
+When ends.WriteFault rest old new = (new.over ≡ old.over) × Rose old.faults_out new.faults_out
+When end rest old new = new.over ≡ old.over
+
+-- a session on a table, from one moment of its link to another
+pub record Talked (table : List ℕ) (old new : Tape) (history : List Entry) (end : End) : Type 0 where
+  pub heard : List ℕ
+  pub said : List ℕ
+  pub idles : ℕ
+  pub rest : List ℕ
+  pub moves : Moves old new heard said idles new.over
+  pub course : Course table end heard said history rest
+  pub when : When end rest old new
+  pub worn : end ≡ ends.Worn → 2 ^ 60 < 2 * length heard + idles + 2
+
+-- the same with its status; where the link tells its bytes, what was given and sent
+pub record Session (table : List ℕ) (old new : Tape) (history : List Entry) (status : ℕ) : Type 0 where
+  pub end : End
+  pub ended : status ≡ status_of end
+  pub talked : Talked table old new history end
+  pub given : old.given ≡ Some [] → new.given ≡ Some talked.heard
+  pub sent : old.sent ≡ Some [] → new.sent ≡ Some talked.said

@@ -1,0 +1,68 @@
+-- What each request of a session is answered, and what it leaves in the table's history.
+use Rattle.std.specs.Prelude.{◌≡◌, ℕ, List, [], ◌∷◌, ◌++◌, Option, Some, None, Bool, cond, codes}
+use Rattle.std.specs.Str.{bytes_eq}
+use Rattle.serde_json.specs.Written.{compact_text}
+use Rattle.reql_datum.specs.Plain.{Plain, null}
+use Rattle.reql_datum.specs.Order.{order}
+use Rattle.reql_datum.specs.Sorted.{find_by}
+use Rattle.reql_law.specs.Machine.{Table, replay, reply}
+use Rattle.reql_law.specs.declared.command.Cmd.TheVariants as cmds
+use Rattle.reql_law.specs.declared.command.Order.{Order}
+use Rattle.reql_law.specs.declared.command.Entry.{Entry}
+use Rattle.reql_law.specs.declared.command.Point.{Point}
+use Rattle.reql_law.specs.declared.command.Reply.{Reply}
+use Rattle.reql_law.specs.declared.command.Said.{Said}
+use Rattle.reql_law.specs.declared.command.Said.TheVariants as said
+use Rattle.reqld.specs.Fields.{key_field}
+use Rattle.reqld.specs.Query.{Asked, NotJson, NotBuilt, Get, Insert, asked}
+use Rattle.reqld.specs.Answers.{refusal, fault, op_failed, answer_plain, summary_object}
+
+-- the command of an INSERT: its values were read at no point, and the one session has number 0
+abbrev pub order_of : List (List ℕ × Plain) → Order
+order_of doc = record { points = []; cmd = cmds.Write (record { key = key_field; doc = doc }) }
+
+abbrev pub entry_of : List (List ℕ × Plain) → Entry
+entry_of doc = record { by = 0; order = order_of doc }
+
+-- the point of the one table, which is in slot 0
+abbrev pub point_at : ℕ → ℕ → Point
+point_at place stamp = record { slot = 0; place = place; stamp = stamp }
+
+abbrev pub missing : List ℕ → List ℕ
+missing name = compact_text (fault op_failed (codes "Table `test." ++ name ++ codes "` does not exist.") None)
+
+-- the document that was found, or null
+abbrev pub found : Option Plain → Plain
+found None = null
+found (Some doc) = doc
+
+-- GET answers the document with the key, at the point where it was looked at
+abbrev pub got : Table → Plain → List ℕ
+got t key = answer_plain (found (find_by order key t.docs)) (Some (point_at t.place t.stamp))
+
+-- INSERT answers the summary, at the point after it
+abbrev pub done : ℕ → ℕ → Said → List ℕ
+done place stamp (said.Done s) = answer_plain (summary_object s) (Some (point_at place stamp))
+
+abbrev pub wrote : Reply → List ℕ
+wrote r = done r.place r.stamp r.said
+
+-- the body of the answer to a request, after the entries of a history
+abbrev pub answer_asked : List ℕ → List Entry → Asked → List ℕ
+answer_asked table h NotJson = compact_text (refusal 16 (codes "Query is not JSON."))
+answer_asked table h NotBuilt = compact_text (refusal 17 (codes "Form is not built yet."))
+answer_asked table h (Get name key) = cond (bytes_eq name table) (got (replay h) key) (missing name)
+answer_asked table h (Insert name doc) = cond (bytes_eq name table) (wrote (reply (replay h) 0 (order_of doc))) (missing name)
+
+-- the history after a request: each INSERT into the table is one more entry
+abbrev pub history_asked : List ℕ → List Entry → Asked → List Entry
+history_asked table h NotJson = h
+history_asked table h NotBuilt = h
+history_asked table h (Get name key) = h
+history_asked table h (Insert name doc) = cond (bytes_eq name table) (h ++ entry_of doc ∷ []) h
+
+abbrev pub answer_to : List ℕ → List Entry → List ℕ → List ℕ
+answer_to table h body = answer_asked table h (asked body)
+
+abbrev pub history_after : List ℕ → List Entry → List ℕ → List Entry
+history_after table h body = history_asked table h (asked body)

@@ -1,0 +1,90 @@
+//! `reqld`: a document database server that speaks RethinkDB's client protocol.
+//!
+//! Today it serves one session over standard input and output, on one table that is empty at first.
+//! `run` is the whole server; `main` hands it the process's words and streams.
+#![tactic(auto)]
+
+mod answer;
+mod ending;
+mod greeting;
+mod query;
+mod request;
+mod session;
+mod setting;
+#[cfg(test)]
+mod tests;
+mod top;
+mod words;
+
+use reql_outside::StdLink;
+use std::process::ExitCode;
+use std::{env, io};
+use top::run;
+use words::{Command, Wanted, command_of};
+
+const USAGE: &str = "\
+usage: reqld stdio --table test.NAME
+
+Serves one session of RethinkDB's client protocol over standard input and output, on the table NAME
+of the database test, which is empty at first. NAME is 1 to 127 characters of A-Z, a-z, 0-9, _ and -.
+
+  reqld --help       says this
+  reqld --version    says which version this is
+
+Status: 0 the input ended between two requests, 2 the words are wrong, 4 reading failed, 5 writing
+failed, 6 the input ended within a greeting or a request, 7 the greeting was refused, 8 out of
+memory, 9 a request was too long.
+";
+
+// What is wanted where the words end too early, as a message says it.
+fn wanted(what: Wanted) -> &'static str {
+    match what {
+        Wanted::Command => "a command",
+        Wanted::TableOption => "the option --table",
+        Wanted::TableName => "a table, test.NAME, after --table",
+    }
+}
+
+fn words_of(rt: &HostRuntime) -> io::Result<Vec<String>> {
+    let mut words = Vec::new(rt.alloc());
+    for word in env::args(rt)?.skip(1) {
+        words.push(word)?;
+    }
+    Ok(words)
+}
+
+// Says on standard error why the words are wrong. A message that can't be written is let go.
+fn complain(rt: &HostRuntime, command: Command<'_>) -> ExitCode {
+    let _ = match command {
+        Command::Wrong { word } => {
+            eprintln!(rt; "reqld: unexpected word `{word}`; reqld --help says how to use it")
+        }
+        Command::Missing { what } => {
+            let what = wanted(what);
+            eprintln!(rt; "reqld: {what} is missing; reqld --help says how to use it")
+        }
+        _ => Ok(()),
+    };
+    ExitCode::from(2)
+}
+
+fn main(rt: HostRuntime) -> ExitCode {
+    let alloc = rt.alloc();
+    let Ok(words) = words_of(&rt) else {
+        let _ = eprintln!(rt; "reqld: the words are not UTF-8, or there is no memory for them");
+        return ExitCode::from(2);
+    };
+    match command_of(&words) {
+        Command::Serve { .. } => ExitCode::from(run(alloc, &words, StdLink::new(rt)).status),
+        Command::Help => printed(print!(rt; "{USAGE}")),
+        Command::Version => printed(println!(rt; "reqld 0.1.0")),
+        wrong => complain(&rt, wrong),
+    }
+}
+
+fn printed(outcome: io::Result<()>) -> ExitCode {
+    match outcome {
+        Ok(()) => ExitCode::from(0),
+        Err(_) => ExitCode::from(5),
+    }
+}

@@ -1,0 +1,140 @@
+// The top call: one session over one link.
+ghost use Rattle.std.specs.Prelude.{◌≡◌, ◌↔◌, ◌<◌, ℕ, List, [], length, map, string_bytes, IfSome, MatchOption, Some, None};
+ghost use Rattle.reqld.specs.Promise.{Session, Talked, longest_request, table_of_words};
+
+use crate::ending::End;
+use crate::greeting::{Greeted, greet};
+use crate::session::{State, serve};
+use crate::setting::Setting;
+use crate::words::{Command, command_of};
+use reql_datum::Name;
+use reql_law::{Entry, PlainTable};
+use reql_outside::Link;
+use reql_wire::Feeder;
+use std::alloc::Global;
+
+/// The longest body of a request, in bytes.
+const LONGEST_REQUEST: u32 = 67_108_864;
+
+/// The most turns of a session: one for each recv, for the greeting and for each frame.
+const TURNS: u64 = 1 << 60;
+
+/// The most bytes of one recv.
+const RECEIVED_BYTES: usize = 65_536;
+
+/// The bytes of a frame with the answer for want of memory.
+const INTERNAL_FRAME_BYTES: usize = 64;
+
+/// What is left of the one session that `run` serves.
+#[derive(Drop)]
+pub struct First<R> {
+    /// 0: the input ended between two frames. 2: the words are others. 4, 5: reading, writing failed.
+    /// 6: the input ended within a greeting or a frame. 7: the greeting was refused. 8: memory was wanted.
+    /// 9: a frame was too long, or all turns were used up.
+    pub status: u8,
+    /// The link's record; none with the status 2.
+    pub tape: Option<R>,
+    /// The entries of the table's history, one for each INSERT on it.
+    pub history: Vec<Entry>,
+}
+
+// What is left of a session, its link aside.
+#[derive(Drop)]
+struct Finished {
+    end: End,
+    history: Vec<Entry>,
+}
+
+fn out_of_memory(alloc: Global) -> Finished
+    ensures end { result.end ≡ End.Memory }
+    ensures history { result.history.items ≡ [] }
+{
+    Finished {
+        end: End::Memory,
+        history: Vec::new(alloc),
+    }
+}
+
+// The turns of a session on a table that is empty at first.
+fn converse<L: Link>(setting: &Setting<'_>, link: &mut L, state: &mut State, buf: &mut [u8]) -> End
+    requires room { 0 < length buf.old }
+    requires bytes { state.old.feeder ≡ record { limit = longest_request; held = [] } }
+    requires table { state.old.table ≡ [] }
+    ensures { Talked setting.now.name.now (L.tape link.old) (L.tape link.new) state.new.table result }
+{
+    match greet(link, &mut state.feeder, buf, TURNS) {
+        Greeted::Ended(end) => end,
+        Greeted::Accepted { turns } => serve(setting, turns, link, state, buf),
+    }
+}
+
+// What a session takes before its first byte, or none where memory is wanted for it.
+fn room(alloc: Global) -> Option<(State, Vec<u8>)>
+    ensures state { IfSome result (λ r. (r.0.feeder ≡ record { limit = longest_request; held = [] }) × (r.0.table ≡ [])) }
+    ensures buf { IfSome result (λ r. 0 < length r.1.items) }
+{
+    let buf = vec![in alloc; 0u8; RECEIVED_BYTES].ok()?;
+    let spare = Vec::with_capacity(alloc, INTERNAL_FRAME_BYTES).ok()?;
+    let state = State {
+        table: PlainTable::new(alloc),
+        feeder: Feeder::new(alloc, LONGEST_REQUEST),
+        spare,
+    };
+    Some((state, buf))
+}
+
+// One session over a link, on a table that is empty at first.
+fn talk_over<L: Link>(alloc: Global, name: &str, link: &mut L) -> Finished
+    ensures { Talked name.now (L.tape link.old) (L.tape link.new) result.history.items result.end }
+{
+    let Ok(key) = Name::of(alloc, "id") else {
+        return out_of_memory(alloc);
+    };
+    let Some((state, mut buf)) = room(alloc) else {
+        return out_of_memory(alloc);
+    };
+    let mut state = state;
+    let setting = Setting {
+        alloc,
+        name,
+        key: &key,
+    };
+    let end = converse(&setting, link, &mut state, &mut buf);
+    Finished {
+        end,
+        history: state.table.into_history(),
+    }
+}
+
+fn serve_link<L: Link>(alloc: Global, name: &str, link: L) -> First<L::Record>
+    ensures status { (result.status ≡ 2) → ⊥ }
+    ensures session { MatchOption result.tape ⊥ (λ r. Session name.now (L.tape link) (L.kept r) result.history.items result.status) }
+{
+    let mut link = link;
+    let Finished { end, history } = talk_over(alloc, name, &mut link);
+    First {
+        status: end.status(),
+        tape: Some(link.finish()),
+        history,
+    }
+}
+
+/// Serves one session over a link, on the table that the words name, which is empty at first.
+///
+/// The words are `stdio --table test.NAME`. With any other words the status is 2 and the link is
+/// not used. Where the link tells its bytes, what was given and sent is known: the answer to the
+/// greeting and then, for each whole frame in order, its answer by the entries before it.
+pub fn run<L: Link + Drop>(alloc: Global, words: &[String], stdio: L) -> First<L::Record>
+    ensures words { (table_of_words (map string_bytes words.now) ≡ None) ↔ (result.status ≡ 2) }
+    ensures unused { result.status ≡ 2 → (result.tape ≡ None) × (result.history.items ≡ []) }
+    ensures session { MatchOption result.tape (result.status ≡ 2) (λ r. (table : List ℕ) × (table_of_words (map string_bytes words.now) ≡ Some table) × Session table (L.tape stdio) (L.kept r) result.history.items result.status) }
+{
+    match command_of(words) {
+        Command::Serve { table } => serve_link(alloc, table, stdio),
+        _ => First {
+            status: 2,
+            tape: None,
+            history: Vec::new(alloc),
+        },
+    }
+}
