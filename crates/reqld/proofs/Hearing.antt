@@ -1,12 +1,12 @@
 -- The recvs of a greeting one after another, and what becomes of it then.
-use Rattle.std.proofs.Common.{◌≡◌, ℕ, ◌+◌, ◌-◌, ◌*◌, ◌≤◌, ◌<◌, ◌⊎◌, inl, inr, List, [], ◌∷◌, ◌++◌, length, take, drop, Bool, true, false, refl, sym, ap, subst, ◌∙◌, arith, append-nil, add-zero, length-append}
+use Rattle.std.proofs.Common.{◌≡◌, ℕ, ◌+◌, ◌-◌, ◌≤◌, ◌<◌, inl, inr, List, [], ◌++◌, length, take, drop, Bool, true, refl, sym, ap, subst, ◌∙◌, arith, append-nil, add-zero, length-append}
 use Rattle.std.proofs.lemmas.List.{take-append-drop, drop-take}
 use Rattle.std.proofs.Math.Seq.{drop-append-add}
-use Rattle.reql_outside.specs.Tape.{Tape, Moves, Rose}
+use Rattle.reql_outside.specs.Tape.{Tape, Moves}
 use Rattle.reql_outside.proofs.Moving.{moves_on, moves_next, rose_later}
 use Rattle.reql_wire.specs.Greeting.{greeting_bytes, accepted, refusal}
 use Rattle.reql_wire.specs.declared.greeter.GreetFault.TheVariants as faults
-use Rattle.reqld.specs.Greeted.{AreAccepted, AreRefused, AreShort, IsFront, SaysFront, WhyGreeted, Accepts, EndsEarly, Greets_with, Waits, Hears, Accepting, Refusing}
+use Rattle.reqld.specs.Greeted.{AreAccepted, EndsEarly, Greets_with, Waits, Hears, Accepting, Refusing}
 use Rattle.reqld.specs.declared.ending.End.{End}
 use Rattle.reqld.specs.declared.ending.End.TheVariants as ends
 use Rattle.reqld.specs.declared.greeting.Heard.TheVariants as heard

@@ -1,13 +1,13 @@
 -- Turns one after another, and an end after them.
-use Rattle.std.proofs.Common.{◌≡◌, ℕ, ◌+◌, ◌*◌, ◌≤◌, ◌<◌, ◌⊎◌, inl, inr, List, [], ◌∷◌, ◌++◌, length, Bool, true, false, Option, Some, None, refl, sym, ap, subst, ◌∙◌, arith, append_assoc, append-nil, length-append}
+use Rattle.std.proofs.Common.{◌≡◌, ℕ, ◌+◌, ◌≤◌, inl, inr, List, [], ◌∷◌, ◌++◌, length, refl, sym, ap, subst, ◌∙◌, arith, append_assoc, append-nil, length-append}
 use Rattle.std.specs.List.{AllByRecursion}
-use Rattle.reql_outside.specs.Tape.{Tape, Moves, Rose}
+use Rattle.reql_outside.specs.Tape.{Tape, Moves}
 use Rattle.reql_outside.proofs.Moving.{moves_on, moves_next, rose_later, still}
 use Rattle.reql_wire.specs.Frames.{Fits, spelling, spellings}
 use Rattle.reql_wire.specs.declared.frame.Frame.{Frame}
 use Rattle.reql_law.specs.declared.command.Entry.{Entry}
 use Rattle.reqld.specs.Requests.{history_after}
-use Rattle.reqld.specs.Turns.{answer_frame, internal_frame, Answered, World, Runs, SaysOf, Why, Ended}
+use Rattle.reqld.specs.Turns.{Answered, World, Runs, SaysOf, Why, Ended}
 use Rattle.reqld.specs.declared.ending.End.{End}
 use Rattle.reqld.specs.declared.ending.End.TheVariants as ends
 

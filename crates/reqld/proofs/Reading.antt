@@ -1,5 +1,5 @@
 -- What the reading of a body says of what it asks for.
-use Rattle.std.proofs.Common.{◌≡◌, ℕ, List, [], ◌∷◌, map, Some, None, Ok, Err, Bool, true, false, IsTrue, refl, sym, ap, ◌∙◌, Result, IfOk}
+use Rattle.std.proofs.Common.{◌≡◌, ℕ, List, [], ◌∷◌, Some, None, Ok, Err, Bool, true, false, refl, ap, Result, IfOk}
 use Rattle.std.specs.Str.{is_utf8, IsUtf8}
 use Rattle.std.proofs.lemmas.Str.{IsUtf8-from_is_utf8, is_utf8-from_IsUtf8}
 use Rattle.reqld.specs.Seen.{Holds, Reads}
@@ -7,10 +7,9 @@ use Rattle.reqld.specs.declared.query.Body.{Body}
 use Rattle.reqld.specs.declared.query.Body.TheVariants as bodies
 use Rattle.serde_json.specs.Data.{Data}
 use Rattle.serde_json.specs.Read.{read}
-use Rattle.reql_datum.specs.Plain.{Plain, Pairs, no_pairs, pair, pairs_of}
+use Rattle.reql_datum.specs.Plain.{Plain, pairs_of}
 use Rattle.reql_json.specs.Reading.{document}
-use Rattle.reql_json.specs.declared.fault.JsonFault.{JsonFault}
-use Rattle.reqld.specs.Query.{asked, asked_value, built, built_document, NotJson, NotBuilt, members_in}
+use Rattle.reqld.specs.Query.{asked, NotJson, members_in}
 
 pub not_json_by : (body : List ℕ) (b : Bool) → is_utf8 body ≡ b → (b ≡ true → read body ≡ None) → asked body ≡ NotJson
 not_json_by body true is none = rw (is, none refl) refl

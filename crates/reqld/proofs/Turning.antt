@@ -1,15 +1,15 @@
 -- What one turn does: a frame that is handled, or a piece that is received.
-use Rattle.std.proofs.Common.{◌≡◌, ℕ, ◌+◌, ◌*◌, ◌≤◌, ◌<◌, ◌⊎◌, inl, inr, List, [], ◌∷◌, ◌++◌, length, Bool, true, false, Option, Some, None, refl, sym, ap, subst, ◌∙◌, arith, append-nil, length-append}
+use Rattle.std.proofs.Common.{◌≡◌, ℕ, List, [], ◌∷◌, ◌++◌, length, Option, Some, None, refl, sym, ap, subst, ◌∙◌, arith, append-nil, length-append}
 use Rattle.reql_outside.specs.Tape.{Tape, Moves}
 use Rattle.reql_wire.specs.Frames.{Fits, NoFrame, More, front, header, spelling, spellings}
 use Rattle.reql_wire.specs.Feeding.{Holding}
 use Rattle.reql_wire.proofs.Fronts.{length-header}
 use Rattle.reql_wire.specs.declared.frame.Frame.{Frame}
 use Rattle.reql_law.specs.declared.command.Entry.{Entry}
-use Rattle.reqld.specs.Turns.{internal_frame, World, Runs, Ended, Turned, OneAnswer, Said, SaysInternal, Received, Handles, Serves}
+use Rattle.reqld.specs.Turns.{internal_frame, World, Runs, Turned, OneAnswer, Said, SaysInternal, Received, Handles, Serves}
 use Rattle.reqld.specs.declared.ending.End.{End}
 use Rattle.reqld.specs.declared.ending.End.TheVariants as ends
-use Rattle.reqld.proofs.Joined.{runs_end, same_moves}
+use Rattle.reqld.proofs.Joined.{runs_end}
 
 pub handled : (table : List ℕ) (old new : Tape) (h g : List Entry) (m a : Frame) (r : Option End) → OneAnswer table h m a g → Said old new (spelling a) r → Handles table old new h g m r
 handled table old new h g m a None one s = (a, one, s)

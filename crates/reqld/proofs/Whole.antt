@@ -1,15 +1,15 @@
 -- A whole session: what ends before its first frame, and what comes after its greeting.
-use Rattle.std.proofs.Common.{◌≡◌, ℕ, ◌+◌, ◌-◌, ◌*◌, ◌^◌, ◌≤◌, ◌<◌, ◌⊎◌, inl, inr, List, [], ◌∷◌, ◌++◌, length, take, drop, Bool, true, false, refl, sym, ap, subst, ◌∙◌, arith, append_assoc, append-nil, length-append}
+use Rattle.std.proofs.Common.{◌≡◌, ℕ, ◌+◌, ◌^◌, ◌⊎◌, inl, inr, List, [], ◌++◌, length, drop, refl, sym, ap, subst, ◌∙◌, arith, append_assoc, length-append}
 use Rattle.std.proofs.lemmas.List.{take-append-drop}
 use Rattle.reql_outside.specs.Tape.{Tape, Moves, grown}
 use Rattle.reql_outside.proofs.Moving.{moves_on, rose_later}
-use Rattle.reql_wire.specs.Frames.{NoFrame, More, front, spellings}
+use Rattle.reql_wire.specs.Frames.{More, front, spellings}
 use Rattle.reql_wire.specs.Feeding.{Holding}
 use Rattle.reql_wire.specs.Greeting.{greeting_bytes, accepted}
 use Rattle.reql_wire.proofs.Fronts.{short_more, more_no_frame}
 use Rattle.reql_law.specs.declared.command.Entry.{Entry}
-use Rattle.reqld.specs.Greeted.{AreAccepted, IsFront, SaysFront, Accepts, EndsEarly}
-use Rattle.reqld.specs.Turns.{World, Ended, SaysOf, Serves, Why}
+use Rattle.reqld.specs.Greeted.{IsFront, SaysFront, Accepts, EndsEarly}
+use Rattle.reqld.specs.Turns.{SaysOf, Serves, Why}
 use Rattle.reqld.specs.Promise.{longest_request, Short, Turned_away, Unread, Served, Course, When, Talked, Session}
 use Rattle.reqld.specs.declared.ending.End.{End}
 use Rattle.reqld.specs.declared.ending.End.TheVariants as ends

@@ -1,8 +1,8 @@
 -- The bodies of answers: compact JSON, with the names of an object in the order of their bytes (RethinkDB's guide on writing drivers).
-use Rattle.std.specs.Prelude.{◌≡◌, ℕ, pos, ◌-◌, ◌^◌, min, nat_lt, List, [], ◌∷◌, ◌++◌, length, Option, Some, None, cond, codes}
+use Rattle.std.specs.Prelude.{ℕ, pos, min, nat_lt, List, [], ◌∷◌, ◌++◌, length, Option, Some, None, cond, codes}
 use Rattle.serde_json.specs.Data as json
 use Rattle.serde_json.specs.Written.{compact_text}
-use Rattle.reql_datum.specs.Plain.{Plain, null, number, text, array, object, items_of, pairs_of}
+use Rattle.reql_datum.specs.Plain.{Plain, number, text, array, object, items_of, pairs_of}
 use Rattle.reql_datum.specs.Members.{put}
 use Rattle.reql_json.specs.Showing.{value}
 use Rattle.reql_law.specs.declared.command.Point.{Point}

@@ -1,5 +1,5 @@
 -- What a session does before its first frame.
-use Rattle.std.specs.Prelude.{◌≡◌, ℕ, ◌+◌, ◌*◌, ◌<◌, ◌≤◌, ◌⊎◌, Bool, true, false, List, [], ◌++◌, length, take, Option, Some, None}
+use Rattle.std.specs.Prelude.{◌≡◌, ℕ, ◌+◌, ◌<◌, ◌≤◌, ◌⊎◌, true, List, [], ◌++◌, length}
 use Rattle.reql_outside.specs.Tape.{Tape, Moves, Rose}
 use Rattle.reql_wire.specs.Greeting.{Greets, greeting_bytes, accepted, refusal}
 use Rattle.reql_wire.specs.declared.greeter.Greeting.TheVariants as greeting

@@ -1,5 +1,5 @@
 -- What `run` promises of a whole session: its input and output byte for byte, its history, and when each status comes.
-use Rattle.std.specs.Prelude.{◌≡◌, ℕ, ◌+◌, ◌*◌, ◌^◌, ◌<◌, ◌≤◌, ◌⊎◌, Bool, true, false, List, [], ◌∷◌, ◌++◌, length, Option, Some, None}
+use Rattle.std.specs.Prelude.{◌≡◌, ℕ, ◌+◌, ◌*◌, ◌^◌, ◌<◌, ◌⊎◌, true, List, [], ◌++◌, length, Option, Some, None}
 use Rattle.std.specs.List.{AllByRecursion}
 use Rattle.reql_outside.specs.Tape.{Tape, Moves, Rose}
 use Rattle.reql_wire.specs.Frames.{Fits, NoFrame, Over, spellings, More, front}

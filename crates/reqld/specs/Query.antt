@@ -1,10 +1,10 @@
 -- What the body of a request asks for, over the JSON value that it is the text of.
-use Rattle.std.specs.Prelude.{◌≡◌, ℕ, ℤ, pos, List, [], ◌∷◌, Option, Some, None, Result, Ok, Err, Bool, true, false, ◌&&◌, cond, codes}
+use Rattle.std.specs.Prelude.{ℕ, ℤ, pos, List, [], ◌∷◌, Option, Some, None, Result, Ok, Err, Bool, true, false, ◌&&◌, cond}
 use Rattle.std.specs.Ordering.{int_eq}
 use Rattle.std.specs.Str.{is_utf8}
 use Rattle.serde_json.specs.Data as json
 use Rattle.serde_json.specs.Read.{read}
-use Rattle.reql_datum.specs.Plain.{Plain, low, array, boolean, null, number, object, binary, time, text, high, Plains, no_items, item, Pairs, no_pairs, pair, pairs_of}
+use Rattle.reql_datum.specs.Plain.{Plain, array, boolean, null, number, object, text, Plains, no_items, item, Pairs, no_pairs, pair}
 use Rattle.reql_datum.specs.Members.{find}
 use Rattle.reql_json.specs.Reading.{document}
 use Rattle.reql_json.specs.declared.fault.JsonFault.{JsonFault}

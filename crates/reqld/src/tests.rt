@@ -1,0 +1,211 @@
+use crate::top::{First, run};
+use reql_outside::{LinkStep, MemLink, MemRecord};
+use reql_wire::put_frame;
+use std::alloc::Global;
+use std::process::Abort;
+use std::test::Fail;
+
+const GREETING: &[u8] = b"\x20\x2d\x0c\x40\0\0\0\0\xc7\x70\x69\x7e";
+
+const INSERT: &str = "[1,[56,[[15,[\"docs\"]],{\"id\":1,\"n\":5}]]]";
+
+const GET: &str = "[1,[16,[[15,[\"docs\"]],1]]]";
+
+const INSERTED: &str =
+    "{\"n\":[],\"r\":[{\"deleted\":0,\"errors\":0,\"inserted\":1,\"replaced\":0,\"skipped\":0,\"unchanged\":0}],\"s\":{\"c\":0,\"t\":[[0,1,1]]},\"t\":1}";
+
+const GOT: &str = "{\"n\":[],\"r\":[{\"id\":1,\"n\":5}],\"s\":{\"c\":0,\"t\":[[0,1,1]]},\"t\":1}";
+
+const TWICE: &str =
+    "{\"n\":[],\"r\":[{\"deleted\":0,\"errors\":1,\"first_error\":\"Duplicate primary key `id`.\",\"inserted\":0,\"replaced\":0,\"skipped\":0,\"unchanged\":0}],\"s\":{\"c\":0,\"t\":[[0,2,1]]},\"t\":1}";
+
+const NO_DOCUMENT: &str = "{\"n\":[],\"r\":[null],\"s\":{\"c\":0,\"t\":[[0,0,0]]},\"t\":1}";
+
+const NO_TABLE: &str =
+    "{\"b\":[],\"e\":4100000,\"r\":[\"Table `test.nope` does not exist.\"],\"s\":{\"c\":0,\"t\":[]},\"t\":18}";
+
+const NOT_JSON: &str = "{\"b\":[],\"r\":[\"Query is not JSON.\"],\"t\":16}";
+
+const NOT_BUILT: &str = "{\"b\":[],\"r\":[\"Form is not built yet.\"],\"t\":17}";
+
+fn words(alloc: Global, words: &[&str]) -> Result<Vec<String>, Fail> {
+    let mut list = Vec::new(alloc);
+    for word in words {
+        list.push(String::from_str(alloc, word)?)?;
+    }
+    Ok(list)
+}
+
+// Some bytes, and then frames with the tokens 1, 2 and so on.
+fn with_frames(alloc: Global, front: &[u8], bodies: &[&str]) -> Result<Vec<u8>, Fail> {
+    let mut bytes = front.to_vec(alloc)?;
+    let mut token: u64 = 0;
+    for body in bodies {
+        token = token.saturating_add(1);
+        if put_frame(&mut bytes, token, body.as_bytes()).is_err() {
+            return Err(Fail::from("memory"));
+        }
+    }
+    Ok(bytes)
+}
+
+fn served(alloc: Global, link: MemLink) -> Result<First<MemRecord>, Fail> {
+    let words = words(alloc, &["stdio", "--table", "test.docs"])?;
+    Ok(run(alloc, &words, link))
+}
+
+// A link that gives these pieces, and whose sends take so many bytes.
+fn link_of(alloc: Global, pieces: &[&[u8]]) -> Result<MemLink, Fail> {
+    let mut script = Vec::new(alloc);
+    for piece in pieces {
+        script.push(LinkStep::Give(piece.to_vec(alloc)?))?;
+    }
+    Ok(MemLink::new(alloc, script, Vec::new(alloc)))
+}
+
+fn expect(rt: &impl Abort, first: &First<MemRecord>, status: u8, sent: &[u8], entries: usize) {
+    assert_eq!(rt; first.status, status);
+    assert_eq!(rt; first.history.len(), entries);
+    match &first.tape {
+        Some(record) => assert!(rt; record.sent.as_slice() == sent),
+        None => assert_eq!(rt; status, 2),
+    }
+}
+
+#[test]
+fn sessions_are_answered_to_the_byte(rt: HostRuntime) -> Result<(), Fail> {
+    let alloc = rt.alloc();
+    let sessions: [(&[&str], &[&str], usize); 9] = [
+        (&[], &[], 0),
+        (&[GET], &[NO_DOCUMENT], 0),
+        (&[INSERT, GET], &[INSERTED, GOT], 1),
+        (&[INSERT, INSERT], &[INSERTED, TWICE], 2),
+        (&["[1,[16,[[15,[\"nope\"]],1]]]"], &[NO_TABLE], 0),
+        (&["[1,[56,[[15,[\"nope\"]],{\"id\":1}]]]"], &[NO_TABLE], 0),
+        (&["{", "\u{7f}", ""], &[NOT_JSON, NOT_JSON, NOT_JSON], 0),
+        (
+            &[
+                "[2]",
+                "[1,1]",
+                "[1,[16,[[15,[\"docs\"]],1.5]]]",
+                "[1,[56,[[15,[\"docs\"]],{\"n\":5}]]]",
+            ],
+            &[NOT_BUILT, NOT_BUILT, NOT_BUILT, NOT_BUILT],
+            0,
+        ),
+        (
+            &[
+                "[1,[56,[[15,[\"docs\"]],{\"id\":1,\"a\":[2,[]]}]]]",
+                "[1,[16,[[15,[\"docs\"]],1]],{}]",
+            ],
+            &[NOT_BUILT, NOT_BUILT],
+            0,
+        ),
+    ];
+    for (requests, answers, entries) in sessions {
+        let input = with_frames(alloc, GREETING, requests)?;
+        let output = with_frames(alloc, b"SUCCESS\0", answers)?;
+        let first = served(alloc, link_of(alloc, &[&input])?)?;
+        expect(&rt, &first, 0, &output, entries);
+    }
+    Ok(())
+}
+
+#[test]
+fn input_that_ends_early_or_is_refused_has_its_status(rt: HostRuntime) -> Result<(), Fail> {
+    let alloc = rt.alloc();
+    let ends: [(&[u8], &[u8], u8, &[u8]); 6] = [
+        (b"", b"", 0, b""),
+        (b"\x20\x2d", b"", 6, b""),
+        (GREETING, b"\0\0\0\0\0\0\0\0\0\0\0", 6, b"SUCCESS\0"),
+        (GREETING, b"\0\0\0\0\0\0\0\0\x01\0\0\x04", 9, b"SUCCESS\0"),
+        (GREETING, b"\0\0\0\0\0\0\0\0\0\0\0\x04", 6, b"SUCCESS\0"),
+        (
+            b"\x21\x2d\x0c\x40\0\0\0\0\xc7\x70\x69\x7e",
+            b"",
+            7,
+            b"ERROR: not built yet\0",
+        ),
+    ];
+    for (front, rest, status, sent) in ends {
+        let first = served(alloc, link_of(alloc, &[front, rest])?)?;
+        expect(&rt, &first, status, sent, 0);
+    }
+    let other = words(alloc, &["stdio", "--table", "test.a.b"])?;
+    expect(
+        &rt,
+        &run(alloc, &other, link_of(alloc, &[GREETING])?),
+        2,
+        b"",
+        0,
+    );
+    Ok(())
+}
+
+#[test]
+fn every_cut_of_the_input_gives_the_same_answers(rt: HostRuntime) -> Result<(), Fail> {
+    let alloc = rt.alloc();
+    let input = with_frames(alloc, GREETING, &[INSERT, GET])?;
+    let output = with_frames(alloc, b"SUCCESS\0", &[INSERTED, GOT])?;
+    for cut in 0..input.len() {
+        let first = served(alloc, link_of(alloc, &[&input[..cut], &input[cut..]])?)?;
+        expect(&rt, &first, 0, &output, 1);
+    }
+    let mut script = Vec::new(alloc);
+    for byte in &input {
+        script.push(LinkStep::Give([*byte].to_vec(alloc)?))?;
+        script.push(LinkStep::Idle)?;
+    }
+    let first = served(alloc, MemLink::slow(alloc, script, Vec::new(alloc), 1))?;
+    expect(&rt, &first, 0, &output, 1);
+    Ok(())
+}
+
+// The input a byte at a time over a link that takes a byte a send, with the k-th recv or send failing.
+fn faulty(alloc: Global, input: &[u8], recv: usize, send: u64) -> Result<First<MemRecord>, Fail> {
+    let mut script = Vec::new(alloc);
+    for (place, byte) in input.iter().enumerate() {
+        if place == recv {
+            script.push(LinkStep::Fail)?;
+        }
+        script.push(LinkStep::Give([*byte].to_vec(alloc)?))?;
+    }
+    if input.len() == recv {
+        script.push(LinkStep::Fail)?;
+    }
+    let mut fails = Vec::new(alloc);
+    fails.push(send)?;
+    served(alloc, MemLink::slow(alloc, script, fails, 1))
+}
+
+#[test]
+fn every_fault_of_the_link_ends_the_session_with_the_answers_before_it(
+    rt: HostRuntime,
+) -> Result<(), Fail> {
+    let alloc = rt.alloc();
+    let input = with_frames(alloc, GREETING, &[INSERT, GET])?;
+    let output = with_frames(alloc, b"SUCCESS\0", &[INSERTED, GOT])?;
+    let after_greeting = 12;
+    let after_insert = with_frames(alloc, GREETING, &[INSERT])?.len();
+    for recv in 0..=input.len() {
+        let first = faulty(alloc, &input, recv, u64::MAX)?;
+        let told = if recv < after_greeting {
+            0
+        } else if recv < after_insert {
+            b"SUCCESS\0".len()
+        } else if recv < input.len() {
+            with_frames(alloc, b"SUCCESS\0", &[INSERTED])?.len()
+        } else {
+            output.len()
+        };
+        assert!(rt; told <= output.len());
+        let entries = if recv < after_insert { 0 } else { 1 };
+        expect(&rt, &first, 4, &output[..told], entries);
+    }
+    for send in 0..output.len() {
+        let first = faulty(alloc, &input, usize::MAX, send as u64)?;
+        let entries = if send < b"SUCCESS\0".len() { 0 } else { 1 };
+        expect(&rt, &first, 5, &output[..send], entries);
+    }
+    Ok(())
+}

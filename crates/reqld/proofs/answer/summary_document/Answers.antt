@@ -1,4 +1,4 @@
-use Rattle.std.proofs.Common.{◌≡◌, ap}
+use Rattle.std.proofs.Common.{ap}
 use Rattle.reql_datum.specs.Plain.{object, pairs_of}
 use Rattle.reqld.proofs.Summaries.{summary_puts}
 use Rattle.reqld.proofs.answer.summary_document.Goals as goal

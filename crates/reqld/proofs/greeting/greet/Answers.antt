@@ -1,5 +1,5 @@
-use Rattle.std.proofs.Common.{◌≡◌, ◌∙◌}
-use Rattle.reqld.proofs.Hearing.{waits_none, waits_more, waits_worn, ended_after, accepted_after, refused_after}
+use Rattle.std.proofs.Common.{◌∙◌}
+use Rattle.reqld.proofs.Hearing.{waits_more, ended_after, accepted_after, refused_after}
 use Rattle.reqld.proofs.greeting.greet.Goals as goal
 
 pub loop-used-preserved : goal.loop-used-preserved

@@ -1,4 +1,4 @@
-use Rattle.std.proofs.Common.{◌≡◌, ◌++◌, ◌≤◌, length, take, drop, arith, ap, ◌∙◌, length-append}
+use Rattle.std.proofs.Common.{◌≤◌, length, take, arith, ap, length-append}
 use Rattle.std.proofs.lemmas.List.{length-take}
 use Rattle.reql_wire.specs.Feeding.{Holding}
 use Rattle.reqld.proofs.Hearing.{followed}

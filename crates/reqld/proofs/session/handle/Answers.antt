@@ -1,5 +1,5 @@
-use Rattle.std.proofs.Common.{inl, inr, refl, ◌⊎◌}
-use Rattle.reqld.specs.Turns.{answer_frame, internal_frame}
+use Rattle.std.proofs.Common.{inl, inr, refl}
+use Rattle.reqld.specs.Turns.{answer_frame}
 use Rattle.reqld.proofs.Turning.{handled, handled_internal}
 use Rattle.reqld.proofs.session.handle.Goals as goal
 

@@ -1,5 +1,4 @@
 use Rattle.std.proofs.Common.{◌≡◌, arith}
-use Rattle.reqld.specs.Turns.{World}
 use Rattle.reqld.proofs.Joined.{runs_none, runs_on}
 use Rattle.reqld.proofs.Turning.{served, worn}
 use Rattle.reqld.proofs.session.serve.Goals as goal

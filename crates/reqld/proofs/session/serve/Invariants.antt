@@ -1,4 +1,4 @@
-use Rattle.reqld.specs.Turns.{World, Runs}
+use Rattle.reqld.specs.Turns.{Runs}
 use Rattle.reqld.proofs.session.serve.Given as goal
 
 abbrev pub invariant-loop : goal.invariant-loop

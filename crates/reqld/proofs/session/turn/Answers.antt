@@ -1,6 +1,5 @@
-use Rattle.std.proofs.Common.{◌≡◌, [], refl}
+use Rattle.std.proofs.Common.{[], refl}
 use Rattle.reqld.specs.declared.ending.End.TheVariants as ends
-use Rattle.reqld.specs.Turns.{World}
 use Rattle.reqld.proofs.Joined.{ended_at_once}
 use Rattle.reqld.proofs.Turning.{turn_frame, turn_received}
 use Rattle.reqld.proofs.session.turn.Goals as goal

@@ -1,6 +1,5 @@
-use Rattle.std.proofs.Common.{◌≡◌, ◌∙◌, ap, [], refl}
+use Rattle.std.proofs.Common.{◌∙◌, ap}
 use Rattle.reql_wire.specs.Feeding.{Holding}
-use Rattle.reqld.specs.Turns.{World}
 use Rattle.reqld.proofs.Whole.{early, after_greeting, limited}
 use Rattle.reqld.proofs.top.converse.Goals as goal
 
