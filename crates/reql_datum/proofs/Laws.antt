@@ -1,5 +1,5 @@
 -- The relation by which documents are ordered is a strict order of them all.
-use Rattle.std.proofs.Common.{◌≡◌, ℕ, ℤ, pos, negsuc, ◌<◌, ◌<ℤ◌, ◌⊎◌, inl, inr, true, false, List, [], ◌∷◌, Ordering, Less, Equal, Greater, refl, arith}
+use Rattle.std.proofs.Common.{◌≡◌, ◌↔◌, ℕ, ℤ, pos, negsuc, ◌<◌, ◌<ℤ◌, ◌⊎◌, inl, inr, true, false, List, [], ◌∷◌, Ordering, Less, Equal, Greater, refl, arith}
 use Rattle.std.specs.Ordering.{nat_cmp, int_cmp, ordering_then, MatchOrdering}
 use Rattle.std.specs.Cmp.Lexicographic.{slice_cmp}
 use Rattle.std.proofs.lemmas.Cmp.{ranked, int_ranked, nat_cmp_total, int_cmp_total, nat_list_cmp_total, tied_itself}
@@ -196,6 +196,17 @@ less_transitive a b c h k = means_less a c (order_total.trans a b c (says a b h)
 
 pub less_irreflexive : (a : Plain) → less a a → ⊥
 less_irreflexive a h = let e : order a a ≡ Equal = tied_itself order_total a in let f : order a a ≡ Less = says a a h in cc
+
+pub below_is : (a b : Plain) → (order a b ≡ Less) ↔ less a b
+below_is a b = (means_less a b, says a b)
+
+equal_at : (a b : Plain) (o : Ordering) → o ≡ Equal → MatchOrdering o (less a b) (a ≡ b) (less b a) → a ≡ b
+equal_at a b Less e h = cc
+equal_at a b Equal e h = h
+equal_at a b Greater e h = cc
+
+pub equal_is : (a b : Plain) → (order a b ≡ Equal) ↔ (a ≡ b)
+equal_is a b = (λ e. equal_at a b (order a b) e (order_means a b), same_plain a b)
 
 one_of : (o : Ordering) (L E G : Type 0) → MatchOrdering o L E G → L ⊎ (E ⊎ G)
 one_of Less L E G h = inl h

@@ -23,6 +23,9 @@ text_means (x ∷ xs) (y ∷ ys) =
     then_means (nat_cmp x y) (slice_cmp nat_cmp xs ys) (x < y) (x ≡ y) (y < x) (text_less xs ys) (xs ≡ ys) (text_less ys xs) (x ∷ xs ≡ y ∷ ys) (y ≡ x)
     (ranked x y _ refl) (text_means xs ys) (λ e f i. e i ∷ f i) sym
 
+pub text_says : (s t : List ℕ) (o : Ordering) → o ≡ slice_cmp nat_cmp s t → MatchOrdering o (text_less s t) (s ≡ t) (text_less t s)
+text_says s t o e = rw e (text_means s t)
+
 same_means : (o : Ordering) (L E G F : Type 0) → (E → F) → MatchOrdering o L E G → MatchOrdering o L F G
 same_means Less L E G F f h = h
 same_means Equal L E G F f h = f h

@@ -1,6 +1,8 @@
 // Bytes, seen as their list.
 ghost use Rattle.std.specs.Prelude.{◌≡◌, IfOk};
+ghost use Rattle.std.specs.Ordering.{MatchOrdering};
 ghost use Rattle.reql_datum.specs.Members.{text_order};
+ghost use Rattle.reql_datum.specs.Order.{text_less};
 
 use reql_memory::Memory;
 use std::alloc::Global;
@@ -42,8 +44,10 @@ impl Blob {
     }
 
     /// By the first byte that differs, a proper prefix first.
+    #[tactic(auto, using(crate::proofs::Order::text_says))]
     pub fn order(&self, bytes: &[u8]) -> Ordering
-        ensures { result ≡ text_order self.now bytes.now }
+        ensures answer { result ≡ text_order self.now bytes.now }
+        ensures meaning { MatchOrdering result (text_less self.now bytes.now) (self.now ≡ bytes.now) (text_less bytes.now self.now) }
     {
         self.as_bytes().cmp(bytes)
     }

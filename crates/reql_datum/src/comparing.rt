@@ -1,7 +1,8 @@
 // The order of documents.
-ghost use Rattle.std.specs.Prelude.{◌≡◌, ◌⊎◌};
+ghost use Rattle.std.specs.Prelude.{◌≡◌, ◌⊎◌, ◌↔◌};
 ghost use Rattle.std.specs.Ordering.{MatchOrdering};
 ghost use Rattle.std.specs.Cmp.{IsTotalOrder};
+ghost use Rattle.std.specs.declared.cmp.Ordering.TheVariants.{Less, Equal};
 ghost use Rattle.reql_datum.specs.Plain.{Plain, items_of, pairs_of};
 ghost use Rattle.reql_datum.specs.View.{plain};
 ghost use Rattle.reql_datum.specs.Order.{rank, less, order, items_order, pairs_order};
@@ -105,11 +106,14 @@ fn compare_fields(ms: &Fields, ns: &Fields) -> Ordering
 }
 
 /// The laws of the order, of all documents: of two that differ one is below the other, none is below
-/// itself, and what is below what is below is below. The answer of `compare` is a total order too.
+/// itself, and what is below what is below is below. The answer of `compare` is a total order too,
+/// and Equal is told of equal documents alone.
 pub fn order_laws()
     ensures total { (a b : Plain) → less a b ⊎ ((a ≡ b) ⊎ less b a) }
     ensures irreflexive { (a : Plain) → ¬ less a a }
     ensures transitive { (a b c : Plain) → less a b → less b c → less a c }
+    ensures below { (a b : Plain) → (order a b ≡ Less) ↔ less a b }
+    ensures equal { (a b : Plain) → (order a b ≡ Equal) ↔ (a ≡ b) }
     ensures answer { IsTotalOrder order }
 {}
 

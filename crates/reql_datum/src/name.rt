@@ -1,6 +1,8 @@
 // A text, seen as its bytes.
 ghost use Rattle.std.specs.Prelude.{◌≡◌, IfOk};
+ghost use Rattle.std.specs.Ordering.{MatchOrdering};
 ghost use Rattle.reql_datum.specs.Members.{text_order};
+ghost use Rattle.reql_datum.specs.Order.{text_less};
 
 use reql_memory::Memory;
 use std::alloc::Global;
@@ -42,8 +44,10 @@ impl Name {
     }
 
     /// How it stands to a text, by their bytes, which is by code points.
+    #[tactic(auto, using(crate::proofs::Order::text_says))]
     pub fn order(&self, text: &str) -> Ordering
-        ensures { result ≡ text_order self.now text.now }
+        ensures answer { result ≡ text_order self.now text.now }
+        ensures meaning { MatchOrdering result (text_less self.now text.now) (self.now ≡ text.now) (text_less text.now self.now) }
     {
         self.as_str().cmp(text)
     }
