@@ -2,3 +2,4 @@ pub mod Rising
 pub mod Steps
 pub mod Entered
 pub mod Back
+pub mod Spelled

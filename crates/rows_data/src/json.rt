@@ -1,5 +1,5 @@
 use reql_datum::Datum;
-use reql_json::{JsonFault, ShowFault, from_value, json_laws, text, to_value};
+use reql_json::{JsonFault, ShowFault, document_text, from_value, json_laws, text, to_value};
 use serde_json::Value;
 use std::alloc::Global;
 use std::test::Fail;
@@ -87,9 +87,18 @@ fn documents_are_shown_with_their_names_in_order(rt: HostRuntime) -> Result<(), 
         ),
     ];
     for (source, want) in rows {
-        let shown = to_value(alloc, &read(alloc, source)?)?;
-        let bytes = text(alloc, &shown)?;
-        assert_eq!(rt; bytes.as_slice(), want.as_bytes(), "{source}");
+        let datum = read(alloc, source)?;
+        let shown = to_value(alloc, &datum)?;
+        assert_eq!(rt;
+            text(alloc, &shown)?.as_slice(),
+            want.as_bytes(),
+            "{source}"
+        );
+        assert_eq!(rt;
+            document_text(alloc, &datum)?.as_slice(),
+            want.as_bytes(),
+            "{source}"
+        );
     }
     for end in [Datum::Low, Datum::High] {
         assert!(rt; matches!(to_value(alloc, &end), Err(ShowFault::Unshowable)));
