@@ -13,15 +13,15 @@ use std::alloc::Global;
 /// The document that a JSON value stands for.
 ///
 /// The fault is the first in the order of reading: an object's own name `$reql_type$` before its
-/// members, members by name, items in order. Objects that follow one another in a list share the
-/// names that they have at like places.
+/// members, members by name, items in order. Documents that follow one another in a list share the
+/// names and texts that are equal at like places.
 pub fn from_value(alloc: Global, v: &Value) -> Result<Datum, JsonFault>
     ensures { Reads plain result (document (view v.now)) }
 {
     read(alloc, v, None)
 }
 
-// `like` is a document that was read before and may have the same names.
+// `like` is a document that was read before and may have the same names and texts.
 #[cycle(document)]
 fn read(alloc: Global, v: &Value, like: Option<&Datum>) -> Result<Datum, JsonFault>
     ensures { Reads plain result (document (view v.now)) }
@@ -30,8 +30,8 @@ fn read(alloc: Global, v: &Value, like: Option<&Datum>) -> Result<Datum, JsonFau
         Value::Null => Ok(Datum::Null),
         Value::Bool(b) => Ok(Datum::Bool(*b)),
         Value::Number(n) => Ok(Datum::Num(whole(n)?)),
-        Value::String(text) => Ok(Datum::Text(Name::of(alloc, text.as_str())?)),
-        Value::Array(items) => Ok(Datum::List(list(alloc, items, first_like(like))?)),
+        Value::String(text) => Ok(Datum::Text(name_of(alloc, text.as_str(), text_like(like))?)),
+        Value::Array(items) => Ok(Datum::List(list(alloc, items, like)?)),
         Value::Object(members) => {
             if v.get("$reql_type$").is_some() {
                 return Err(JsonFault::Reserved);
@@ -51,20 +51,28 @@ fn whole(n: &Number) -> Result<Whole, JsonFault>
     Whole::new(z).ok_or(JsonFault::OverRange)
 }
 
-fn first_like(like: Option<&Datum>) -> Option<&Datum> {
+fn text_like(like: Option<&Datum>) -> Option<&Name> {
     match like {
-        Some(Datum::List(items)) => items.at(0),
+        Some(Datum::Text(text)) => Some(text),
+        _ => None,
+    }
+}
+
+fn item_like(like: Option<&Datum>, place: usize) -> Option<&Datum> {
+    match like {
+        Some(Datum::List(items)) => items.at(place),
         _ => None,
     }
 }
 
 #[cycle(document)]
-fn list(alloc: Global, items: &Vec<Value>, first: Option<&Datum>) -> Result<Items, JsonFault>
+fn list(alloc: Global, items: &Vec<Value>, like: Option<&Datum>) -> Result<Items, JsonFault>
     ensures { Reads (λ vs. vs) result (documents (items_view items.now.items)) }
 {
     let mut out = Items::with_room(alloc, items.len())?;
     for item in items {
-        let datum = read(alloc, item, out.as_slice().last().or(first))?;
+        let known = item_like(like, out.len()).or(out.as_slice().last());
+        let datum = read(alloc, item, known)?;
         out.push(datum)?;
     }
     Ok(out)
@@ -79,7 +87,7 @@ fn member_like(like: Option<&Datum>, place: usize) -> (Option<&Name>, Option<&Da
     (None, None)
 }
 
-// The name that is known, if it is the key.
+// The text that is known, if it is this one.
 fn name_of(alloc: Global, key: &str, known: Option<&Name>) -> Result<Name, Memory>
     ensures { IfOk result (λ n. n ≡ key.now) }
 {
