@@ -21,7 +21,7 @@ object-loop-key-preserved t c =
     let whole : keys_of out ++ k ∷ names left ≡ names c.args.held.now.entries = ap (λ es. keys_of out ++ names es) (sym c.in-Some.ensures.steps) ∙ c.loop-key.invariant.names in
     let up = subst (IsStrictlySortedBy text_order) (sym whole) (rising_names c.args.held.now.entries c.iter-key-items.ensures.ordered) in
     let last = put_last (λ x. x) out k d (names left) up in
-    let added : c.put.new.self ≡ out ++ (k, d) ∷ [] = c.in_ok-put.ensures.members ∙ rw (c.in_ok-name.ensures, c.as_str.ensures.value) last in
+    let added : c.put.new.self ≡ out ++ (k, d) ∷ [] = rw (c.in_ok-put.ensures.members, c.in_ok-name.ensures, c.as_str.ensures.value) last in
     record {
       rest = read_step _ (document (view e.1)) (λ v. (k, v)) (members (members_view left)) d out c.put.new.self known c.in_ok-datum.ensures added;
       names = ap (λ ms. keys_of ms ++ names left) added ∙ names_step (λ x. x) out k d (names left) ∙ whole;
