@@ -55,6 +55,9 @@ pub member_fails : (ts mid : List Token) (k : List ℕ) (one : Option Data) (lat
 member_fails ts mid k None later is = refl
 member_fails ts mid k (Some d) later is = cc
 
+pub print_spelled : (d : Data) (ts : List Token) → ts ≡ json_tokens (outline d) → print ts ≡ compact_text d
+print_spelled d ts is = ap print is ∙ print-outline d
+
 pub printed : (o : Option Data) (ts : List Token) → after [] o ≡ Some ts → option_map compact_text o ≡ Some (print ts)
 printed None ts is = cc
 printed (Some d) ts is = let e : json_tokens (outline d) ≡ ts = cc in ap Some (sym (print-outline d) ∙ ap print e)

@@ -11,4 +11,4 @@ pub use fault::{JsonFault, ShowFault};
 pub use laws::json_laws;
 pub use read::from_value;
 pub use show::{text, to_value};
-pub use spell::{document_text, write_document};
+pub use spell::{document_text, write_document, written};

@@ -1,6 +1,8 @@
 // A document written as its JSON value, with no value made for it.
-ghost use Rattle.std.specs.Prelude.{◌≡◌, option_map, IfOk};
-ghost use Rattle.serde_json.specs.Written.{compact_text};
+ghost use Rattle.std.specs.Prelude.{◌≡◌, ◌++◌, option_map, IfOk};
+ghost use Rattle.json.specs.Tree.{json_tokens};
+ghost use Rattle.serde_json.specs.Data.{Data};
+ghost use Rattle.serde_json.specs.Written.{compact_text, outline};
 ghost use Rattle.reql_datum.specs.Plain.{items_of, pairs_of};
 ghost use Rattle.reql_datum.specs.View.{plain};
 ghost use Rattle.reql_json.specs.Showing.{Shows, value, values, shown};
@@ -19,6 +21,14 @@ pub fn document_text(alloc: Global, d: &Datum) -> Result<Vec<u8>, ShowFault>
 {
     let out = Writer::new(Vec::with_capacity(alloc, 128)?);
     Ok(write_document(out, d)?.into_inner())
+}
+
+/// The text of all that a writer of JSON holds: the compact text of the value whose tokens it took.
+#[tactic(auto, using(crate::proofs::Spelled::print_spelled))]
+pub fn written(out: Writer) -> Vec<u8>
+    ensures { (d : Data) → out.tokens ≡ json_tokens (outline d) → result.items ≡ out.before ++ compact_text d }
+{
+    out.into_inner()
 }
 
 /// Writes a document after what a writer of JSON holds, as its JSON value.

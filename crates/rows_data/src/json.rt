@@ -1,5 +1,9 @@
+use json::Writer;
 use reql_datum::Datum;
-use reql_json::{JsonFault, ShowFault, document_text, from_value, json_laws, text, to_value};
+use reql_json::{
+    JsonFault, ShowFault, document_text, from_value, json_laws, text, to_value, write_document,
+    written,
+};
 use serde_json::Value;
 use std::alloc::Global;
 use std::test::Fail;
@@ -104,5 +108,23 @@ fn documents_are_shown_with_their_names_in_order(rt: HostRuntime) -> Result<(), 
         assert!(rt; matches!(to_value(alloc, &end), Err(ShowFault::Unshowable)));
     }
     json_laws();
+    Ok(())
+}
+
+#[test]
+fn documents_stand_in_an_answer(rt: HostRuntime) -> Result<(), Fail> {
+    let alloc = rt.alloc();
+    let datum = read(alloc, "[{\"id\":1}]")?;
+    let mut out = Writer::new(Vec::new(alloc));
+    out.begin_object()?;
+    out.key("r")?;
+    let mut out = write_document(out, &datum)?;
+    out.key("t")?;
+    out.u64(2)?;
+    out.end_object()?;
+    assert_eq!(rt;
+        written(out).as_slice(),
+        b"{\"r\":[{\"id\":1}],\"t\":2}".as_slice()
+    );
     Ok(())
 }
