@@ -1,0 +1,47 @@
+ghost use Rattle.std.specs.Prelude.{◌≡◌, ℕ, ◌+◌, ◌^◌, ◌<◌, true, false, IfOk, IfErr};
+ghost use Rattle.reql_shared.specs.Machine.{Machine};
+
+use reql_memory::{Memory, Refused};
+
+/// A machine whose commands may add an entry to a history.
+///
+/// Its meaning is `machine`, functions of a state, and `state`, which says what state an engine is in. A command that
+/// is not recorded leaves the state as it was.
+pub trait Engine {
+    type Cmd;
+
+    type Reply;
+
+    type Question;
+
+    type Answer;
+
+    /// What contracts see of an engine. No value of it is made.
+    type State;
+
+    ghost machine: { Machine Self.State Self.Cmd Self.Reply Self.Question Self.Answer };
+
+    ghost state: { Self → Self.State };
+
+    // Some state or other, which stands where no state is meant.
+    ghost some_state: { Self.State };
+
+    /// Answers a command of the pass of number `by`. With want of memory nothing has changed.
+    /// It records no command where the history has 2^64 - 1 entries.
+    fn apply(&mut self, by: u64, cmd: Self::Cmd) -> Result<Self::Reply, Refused<Self::Cmd>>
+        ensures reply { IfOk result (λ r. r ≡ machine.reply (state self.old) by cmd) }
+        ensures recorded { IfOk result (λ r. machine.recorded r ≡ true → state self.new ≡ machine.after (state self.old) by cmd) }
+        ensures counted { IfOk result (λ r. machine.recorded r ≡ true → machine.place (state self.new) ≡ machine.place (state self.old) + 1) }
+        ensures room { IfOk result (λ r. machine.recorded r ≡ true → machine.place (state self.old) + 1 < 2 ^ 64) }
+        ensures same { IfOk result (λ r. machine.recorded r ≡ false → state self.new ≡ state self.old) }
+        ensures back { IfErr result (λ refused. refused.back ≡ cmd) }
+        ensures refused { IfErr result (λ refused. state self.new ≡ state self.old) };
+
+    /// Answers a question.
+    fn ask(&self, question: &Self::Question) -> Result<Self::Answer, Memory>
+        ensures answer { IfOk result (λ a. a ≡ machine.answer (state self.now) question.now) };
+
+    /// Whether the command that was answered so was recorded.
+    fn records(answered: &Self::Reply) -> bool
+        ensures recorded { result ≡ machine.recorded answered.now };
+}
