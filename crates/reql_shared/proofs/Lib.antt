@@ -1,4 +1,5 @@
 pub mod Acting
+pub mod Sends
 pub mod Engines
 pub mod Histories
 pub mod Locked

@@ -12,6 +12,7 @@ mod pass;
 mod recorded;
 mod rule;
 mod shared;
+mod threads;
 mod view;
 
 pub use engine::Engine;
@@ -23,3 +24,4 @@ pub use laws::{
 pub use pass::Pass;
 pub use recorded::Recorded;
 pub use shared::Shared;
+pub use threads::{passes_cross_threads, threads_share_engines};

@@ -59,6 +59,8 @@ impl<E: Engine + Drop> Shared<E> {
         cmd: E::Cmd,
     ) -> Result<E::Reply, Refused<E::Cmd>>
         requires of_this_engine { pass.old.object ≡ self.now }
+        ensures object { pass.new.object ≡ pass.old.object }
+        ensures number { pass.new.number ≡ pass.old.number }
         ensures ran { IfOk result (λ reply. (place : ℕ) × Acts E.machine pass.old pass.new (Ran place cmd reply)) }
         ensures refused { IfErr result (λ refused. (place : ℕ) × Acts E.machine pass.old pass.new (Denied place)) }
         ensures back { IfErr result (λ refused. refused.back ≡ cmd) }
@@ -80,6 +82,8 @@ impl<E: Engine + Drop> Shared<E> {
         question: &E::Question,
     ) -> Result<E::Answer, Memory>
         requires of_this_engine { pass.old.object ≡ self.now }
+        ensures object { pass.new.object ≡ pass.old.object }
+        ensures number { pass.new.number ≡ pass.old.number }
         ensures looked { IfOk result (λ answer. (place : ℕ) × Acts E.machine pass.old pass.new (Looked place question.now answer)) }
         ensures denied { IfErr result (λ memory. (place : ℕ) × Acts E.machine pass.old pass.new (Denied place)) }
     {
