@@ -6,4 +6,5 @@ pub mod Locked
 pub mod Meeting
 pub mod Playing
 pub mod Sharing
+pub mod Unused
 pub mod Views

@@ -1,4 +1,4 @@
-ghost use Rattle.std.specs.Prelude.{◌≡◌, ℕ, ◌≤◌, [], ◌∷◌, ◌++◌, map, length, true, false, IfOk, IfErr};
+ghost use Rattle.std.specs.Prelude.{All, ◌≡◌, ℕ, ◌≤◌, [], ◌∷◌, ◌++◌, map, length, true, false, IfOk, IfErr};
 ghost use Rattle.std.specs.List.{range_with_len};
 ghost use Rattle.reql_shared.specs.History.{noted, longer, AllBelow};
 ghost use Rattle.reql_shared.specs.Machine.{replay};
@@ -45,6 +45,7 @@ impl<E: Engine + Drop> Shared<E> {
         ensures start { IfOk result (λ made. made.0.start ≡ E.state engine) }
         ensures count { IfOk result (λ made. made.0.passes ≡ passes) }
         ensures passes { IfOk result (λ made. made.1.items ≡ unused_passes made.0) }
+        ensures of_this_engine { IfOk result (λ made. All (λ pass. pass.object ≡ made.0) made.1.items) }
     {
         let (table, mut first) = open(alloc, engine, passes)?;
         let made = make_passes(alloc, &table.shared, &mut first, passes)?;

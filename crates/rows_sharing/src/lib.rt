@@ -1,0 +1,14 @@
+//! Shared engines at work: an engine that adds numbers and one that lists its callers, each run by threads.
+#![tactic(auto)]
+
+mod adder;
+mod adding;
+mod caller;
+mod calling;
+#[cfg(test)]
+mod tests;
+
+pub use adder::Adder;
+pub use adding::add_by_two;
+pub use caller::Callers;
+pub use calling::{Worker, call_by_many};
