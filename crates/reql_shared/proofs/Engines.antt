@@ -1,8 +1,8 @@
 -- What the engine in the slot is, from step to step under the lock.
-use Rattle.std.proofs.Common.{◌≡◌, ℕ, ◌+◌, List, [], ◌∷◌, ◌++◌, length, Some, None, true, refl, sym, ap, ◌∙◌, subst, arith, length-append}
+use Rattle.std.proofs.Common.{◌≡◌, ℕ, ◌+◌, List, [], ◌∷◌, ◌++◌, length, Some, true, refl, sym, ap, ◌∙◌, subst, arith, length-append}
 use Rattle.std.specs.Prelude.{Option}
 use Rattle.std.specs.declared.snapshot.Snapshot.{Snapshot}
-use Rattle.atomic_table.specs.Table.{rest, Me}
+use Rattle.atomic_table.specs.Table.{Me}
 use Rattle.reql_shared.specs.declared.recorded.Recorded.{Recorded}
 use Rattle.reql_shared.specs.declared.view.View.{View}
 use Rattle.reql_shared.specs.declared.view.Lodged.{Lodged}
@@ -24,27 +24,6 @@ module _ {S C R Q A E : Type 0} (state : E → S) (machine : Machine S C R Q A) 
   pub lodges_still : (start : S) (log : List (Recorded C)) (y z : E) (asked : Option (Snapshot C)) → state y ≡ replay machine start log → machine.place (state y) ≡ length log
       → state z ≡ state y → Lodges state machine start log (record { engine = Some z; asked = asked })
   lodges_still start log y z asked is at now = (z, refl, now ∙ is, ap machine.place now ∙ at)
-
-module _ {D : Type 0} where
-  abbrev head_of : D → List (ℕ × D) → D
-  head_of x [] = x
-  head_of x (z ∷ zs) = z.1
-
-  -- the value that an exchange found is the one that the seat had
-  pub found_it : (xs : List (ℕ × D)) (d r : D) → xs ≡ (0, d) ∷ [] → xs ≡ (0, r) ∷ rest xs → r ≡ d
-  found_it xs d r p q = sym (ap (head_of d) (sym p ∙ q))
-
-module _ {D V : Type 0} where
-  pub swapped : (m n : Me D V) (d e : D) → m.1 ≡ (0, d) ∷ [] → n ≡ (m.0, (0, e) ∷ rest m.1) → n ≡ (m.0, (0, e) ∷ [])
-  swapped m n d e p q = q ∙ (λ k. (m.0, (0, e) ∷ rest (p k)))
-
-module _ {A : Type 0} where
-  abbrev or_else : A → Option A → A
-  or_else x None = x
-  or_else x (Some y) = y
-
-  pub some_same : (x y : A) → Some x ≡ Some y → x ≡ y
-  some_same x y e = ap (or_else x) e
 
 module _ {C S E : Type 0} (lodges : S → List (Recorded C) → Lodged E C → Type 0) where
   pub in_same : (m : Me (Lodged E C) (View C S)) (v : View C S) (d : Lodged E C) → m ≡ (v, (0, d) ∷ []) → v.holds ≡ true → lodges v.start v.seen d → IsIn lodges m

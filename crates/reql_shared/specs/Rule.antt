@@ -116,6 +116,10 @@ module _ {C S : Type 0} where
   abbrev pub IsIn : {D : Type 0} → (S → List (Recorded C) → D → Type 0) → Me D (View C S) → Type 0
   IsIn {D} lodges m = (m.0.holds ≡ true) × ((d : D) × (m.1 ≡ (0, d) ∷ []) × lodges m.0.start m.0.seen d)
 
+  -- the seat has the slot, whatever lies in it
+  abbrev pub HasSlot : {D : Type 0} → Me D (View C S) → Type 0
+  HasSlot {D} m = (d : D) × (m.1 ≡ (0, d) ∷ [])
+
   -- the lock is given back
   abbrev pub released : View C S → View C S
   released v = record { live = v.live; start = v.start; passes = v.passes; seen = v.seen; own = v.own; number = v.number; marks = v.marks; holds = false; maker = v.maker; next = v.next; joined = false; mine_old = []; other_old = [] }

@@ -1,19 +1,19 @@
-ghost use Rattle.std.specs.Prelude.{All, ◌≡◌, ℕ, ◌≤◌, [], ◌∷◌, ◌++◌, map, length, true, false, IfOk, IfErr};
+ghost use Rattle.std.specs.Prelude.{All, ◌≡◌, [], map, IfOk};
 ghost use Rattle.std.specs.List.{range_with_len};
-ghost use Rattle.reql_shared.specs.History.{noted, longer, AllBelow};
+ghost use Rattle.reql_shared.specs.History.{longer, AllBelow};
 ghost use Rattle.reql_shared.specs.Machine.{replay};
 ghost use Rattle.reql_shared.specs.Sight.{unused, unused_passes, Learns};
-ghost use Rattle.reql_shared.specs.Acts.{Ran, Looked, Denied, Acts};
-ghost use Rattle.reql_shared.specs.Rule.{Lodges, Kept, maker, IsIn, grown, Hears};
+ghost use Rattle.reql_shared.specs.Rule.{maker, Hears};
 
 use crate::engine::Engine;
 use crate::last::Final;
-use crate::lock::{give_lock, take_lock};
+use crate::lock::take_lock;
+use crate::lodging::take_engine;
 use crate::pass::Pass;
-use crate::rule::{Append, Arrive, Count, Hear, Learn, Note, Number, OneHistory, Origin};
+use crate::rule::{Arrive, Hear, Learn, Note, Number, OneHistory, Origin};
 use crate::view::{Lodged, View};
 use atomic_table::{Seat, Shared as Board, Table};
-use reql_memory::{Memory, Refused};
+use reql_memory::Memory;
 use std::alloc::Global;
 use std::marker::Model;
 use std::snapshot::Snapshot;
@@ -24,7 +24,13 @@ use std::sync::Wait;
 /// It lies in a slot of a table, whose words are the number of entries of its history and the lock.
 #[derive(Drop)]
 pub struct Shared<E: Engine> {
-    table: Table<Lodged<E, E::Cmd>, View<E::Cmd, E::State>, Origin<E>, OneHistory<E>, Global>,
+    pub(crate) table: Table<
+        Lodged<E, E::Cmd>,
+        View<E::Cmd, E::State>,
+        Origin<E>,
+        OneHistory<E>,
+        Global,
+    >,
 }
 
 impl<E: Engine> Model for Shared<E> {
@@ -50,51 +56,6 @@ impl<E: Engine + Drop> Shared<E> {
         let (table, mut first) = open(alloc, engine, passes)?;
         let made = make_passes(alloc, &table.shared, &mut first, passes)?;
         Ok((Shared { table }, made))
-    }
-
-    /// Runs a command. It may wait for other threads.
-    pub fn run<R: Wait>(
-        &self,
-        rt: &R,
-        pass: &mut Pass<E>,
-        cmd: E::Cmd,
-    ) -> Result<E::Reply, Refused<E::Cmd>>
-        requires of_this_engine { pass.old.object ≡ self.now }
-        ensures object { pass.new.object ≡ pass.old.object }
-        ensures number { pass.new.number ≡ pass.old.number }
-        ensures ran { IfOk result (λ reply. (place : ℕ) × Acts E.machine pass.old pass.new (Ran place cmd reply)) }
-        ensures refused { IfErr result (λ refused. (place : ℕ) × Acts E.machine pass.old pass.new (Denied place)) }
-        ensures back { IfErr result (λ refused. refused.back ≡ cmd) }
-    {
-        let board = &self.table.shared;
-        take_lock(rt, board, &mut pass.seat);
-        let answer = apply(board, &mut pass.seat, pass.number, cmd);
-        pass.place = board.load::<Count>(&mut pass.seat, 0);
-        pass.visits = pass.visits.saturating_add(1);
-        give_lock(board, &mut pass.seat);
-        answer
-    }
-
-    /// Asks a question about the history so far, which the pass has then seen. It may wait for other threads.
-    pub fn look<R: Wait>(
-        &self,
-        rt: &R,
-        pass: &mut Pass<E>,
-        question: &E::Question,
-    ) -> Result<E::Answer, Memory>
-        requires of_this_engine { pass.old.object ≡ self.now }
-        ensures object { pass.new.object ≡ pass.old.object }
-        ensures number { pass.new.number ≡ pass.old.number }
-        ensures looked { IfOk result (λ answer. (place : ℕ) × Acts E.machine pass.old pass.new (Looked place question.now answer)) }
-        ensures denied { IfErr result (λ memory. (place : ℕ) × Acts E.machine pass.old pass.new (Denied place)) }
-    {
-        let board = &self.table.shared;
-        take_lock(rt, board, &mut pass.seat);
-        let answer = ask(board, &mut pass.seat, question);
-        pass.place = board.load::<Count>(&mut pass.seat, 0);
-        pass.visits = pass.visits.saturating_add(1);
-        give_lock(board, &mut pass.seat);
-        answer
     }
 
     /// Shows each of two passes what the other has seen.
@@ -133,15 +94,7 @@ impl<E: Engine + Drop> Shared<E> {
         let Shared { table } = self;
         let (_, mut seat) = table.shared.load_new_seat::<Arrive>(0);
         take_lock(rt, &table.shared, &mut seat);
-        let Lodged { engine, asked: _ } = table.shared.exchange(
-            &mut seat,
-            0,
-            Lodged {
-                engine: None,
-                asked: None,
-            },
-        );
-        let Some(engine) = engine else { unreachable!() };
+        let engine = take_engine(&table.shared, &mut seat);
         Final {
             table,
             seat,
@@ -206,96 +159,4 @@ fn make_passes<E: Engine>(
         });
     }
     Ok(made)
-}
-
-// Applies a command under the lock, and appends it where it is recorded.
-fn apply<E: Engine + Drop>(
-    board: &Board<Lodged<E, E::Cmd>, View<E::Cmd, E::State>, Origin<E>, OneHistory<E>>,
-    seat: &mut Seat<Lodged<E, E::Cmd>, View<E::Cmd, E::State>>,
-    number: u64,
-    cmd: E::Cmd,
-) -> Result<E::Reply, Refused<E::Cmd>>
-    requires sized { (board.now.table_id.words ≡ 2) × (board.now.table_id.slots ≡ 1) }
-    requires table { seat.old.table_id ≡ board.now.table_id }
-    requires held { IsIn (Lodges E.state E.machine) seat.old.me }
-    requires numbered { (seat.old.me.0.own ≡ true) × (seat.old.me.0.number ≡ number) }
-    ensures table { seat.new.table_id ≡ seat.old.table_id }
-    ensures held { IsIn (Lodges E.state E.machine) seat.new.me }
-    ensures reply { IfOk result (λ r. r ≡ E.machine.reply (replay E.machine seat.old.me.0.start seat.old.me.0.seen) number cmd) }
-    ensures grown { IfOk result (λ r. seat.new.me.0 ≡ grown (E.machine.recorded r) seat.old.me.0 (noted number cmd)) }
-    ensures refused { IfErr result (λ r. (r.back ≡ cmd) × (seat.new.me.0 ≡ seat.old.me.0)) }
-{
-    let Lodged { engine, asked: _ } = board.exchange(
-        seat,
-        0,
-        Lodged {
-            engine: None,
-            asked: None,
-        },
-    );
-    let Some(mut engine) = engine else {
-        unreachable!()
-    };
-    let asked = Snapshot::of(&cmd);
-    match engine.apply(number, cmd) {
-        Ok(reply) => {
-            board.exchange(
-                seat,
-                0,
-                Lodged {
-                    engine: Some(engine),
-                    asked: Some(asked),
-                },
-            );
-            if E::records(&reply) {
-                board.fetch_add::<Append>(seat, 0, 1);
-            }
-            Ok(reply)
-        }
-        Err(refused) => {
-            board.exchange(
-                seat,
-                0,
-                Lodged {
-                    engine: Some(engine),
-                    asked: None,
-                },
-            );
-            Err(refused)
-        }
-    }
-}
-
-// Asks a question under the lock.
-fn ask<E: Engine + Drop>(
-    board: &Board<Lodged<E, E::Cmd>, View<E::Cmd, E::State>, Origin<E>, OneHistory<E>>,
-    seat: &mut Seat<Lodged<E, E::Cmd>, View<E::Cmd, E::State>>,
-    question: &E::Question,
-) -> Result<E::Answer, Memory>
-    requires table { seat.old.table_id ≡ board.now.table_id }
-    requires held { IsIn (Lodges E.state E.machine) seat.old.me }
-    ensures table { seat.new.table_id ≡ seat.old.table_id }
-    ensures held { IsIn (Lodges E.state E.machine) seat.new.me }
-    ensures view { seat.new.me.0 ≡ seat.old.me.0 }
-    ensures answer { IfOk result (λ a. a ≡ E.machine.answer (replay E.machine seat.old.me.0.start seat.old.me.0.seen) question.now) }
-{
-    let Lodged { engine, asked } = board.exchange(
-        seat,
-        0,
-        Lodged {
-            engine: None,
-            asked: None,
-        },
-    );
-    let Some(engine) = engine else { unreachable!() };
-    let answer = engine.ask(question);
-    board.exchange(
-        seat,
-        0,
-        Lodged {
-            engine: Some(engine),
-            asked,
-        },
-    );
-    answer
 }
