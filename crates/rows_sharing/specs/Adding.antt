@@ -1,5 +1,5 @@
 -- A machine that adds numbers.
-use Rattle.std.specs.Prelude.{ℕ, ◌+◌, ◌-◌, ◌%◌, ◌^◌, ◌==◌, Option, Some, None, Bool, true, false, if◌then◌else◌, is_some}
+use Rattle.std.specs.Prelude.{ℕ, ◌+◌, ◌-◌, ◌%◌, ◌^◌, ◌==◌, Option, Some, None, if◌then◌else◌, is_some}
 use Rattle.reql_shared.specs.Machine.{Machine}
 
 -- the sum, and how many numbers were added

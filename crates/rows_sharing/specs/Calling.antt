@@ -1,5 +1,5 @@
 -- A machine that lists the numbers of those who called it.
-use Rattle.std.specs.Prelude.{ℕ, ◌+◌, List, [], ◌∷◌, ◌++◌, length, Bool, true, false}
+use Rattle.std.specs.Prelude.{ℕ, List, [], ◌∷◌, ◌++◌, length, true}
 use Rattle.reql_shared.specs.Machine.{Machine}
 
 abbrev pub calling : Machine (List ℕ) (Unit {0}) ℕ (Unit {0}) (List ℕ)

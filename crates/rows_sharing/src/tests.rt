@@ -4,31 +4,30 @@ use std::test::Fail;
 
 #[test]
 fn a_pass_is_at_place_1_after_its_first_command(rt: HostRuntime) -> Result<(), Fail> {
-    let adder = Adder { sum: 0, count: 0 };
-    let (shared, mut passes) = Shared::new(rt.alloc(), adder, 1)?;
+    let (shared, mut passes) = Shared::new(rt.alloc(), Adder { sum: 0, count: 0 }, 1)?;
     let mut pass = passes.pop().expect(&rt, "one pass");
-    assert_eq!(rt; (pass.number(), pass.place(), pass.visits()), (0, 0, 0));
-    assert_eq!(rt; shared.look(&rt, &mut pass, &())?, 0);
-    assert_eq!(rt; (pass.place(), pass.visits()), (0, 1));
-    assert_eq!(rt; shared.run(&rt, &mut pass, 7)?, Some(7));
-    assert_eq!(rt; (pass.place(), pass.visits()), (1, 2));
+    let number = pass.number();
+    let sum = shared.look(&rt, &mut pass, &())?;
+    let before = pass.place();
+    let reply = shared.run(&rt, &mut pass, 7)?;
+    let told = (number, sum, before, reply, pass.place(), pass.visits());
+    assert_eq!(rt; told, (0, 0, 0, Some(7), 1, 2));
     Ok(())
 }
 
 #[test]
 fn two_threads_add_all_their_numbers(rt: HostRuntime) -> Result<(), Fail> {
     let (last, first, second) = add_by_two(&rt, rt.alloc(), (1, 1_000_000), 1000)?;
-    assert_eq!(rt;
-        (last.engine().sum, last.engine().count),
-        (1_000_001_000, 2000)
+    let sums = (last.engine().sum, last.engine().count);
+    let places = (
+        first.place(),
+        first.visits(),
+        second.place(),
+        second.visits(),
     );
     assert_eq!(rt;
-        (first.number(), first.place(), first.visits()),
-        (0, 2000, 1000)
-    );
-    assert_eq!(rt;
-        (second.number(), second.place(), second.visits()),
-        (1, 2000, 1000)
+        (sums, places),
+        ((1_000_001_000, 2000), (2000, 1000, 2000, 1000))
     );
     Ok(())
 }
@@ -37,18 +36,20 @@ fn two_threads_add_all_their_numbers(rt: HostRuntime) -> Result<(), Fail> {
 fn each_look_is_a_beginning_of_the_list_at_the_end(rt: HostRuntime) -> Result<(), Fail> {
     let (last, workers) = call_by_many(&rt, rt.alloc(), 8, 100)?;
     let calls = last.engine().calls.as_slice();
-    assert_eq!(rt; (calls.len(), workers.len()), (1600, 8));
-    for number in 0..16 {
-        let own = calls.iter().filter(|by| **by == number).count();
-        assert_eq!(rt; own, 100, "pass {number}");
+    let mut own = [0u32; 16];
+    for by in calls {
+        if let Some(count) = own.get_mut(*by as usize) {
+            *count = count.wrapping_add(1);
+        }
     }
+    assert_eq!(rt; (calls.len(), workers.len(), own), (1600, 8, [100; 16]));
     for worker in &workers {
-        assert_eq!(rt; (worker.first.place(), worker.first.visits()), (1600, 125));
-        assert_eq!(rt;
-            (worker.second.place(), worker.second.visits()),
-            (1600, 100)
+        let places = (
+            worker.first.place(),
+            worker.first.visits(),
+            worker.second.place(),
         );
-        assert_eq!(rt; worker.looks.len(), 25);
+        assert_eq!(rt; (places, worker.looks.len()), ((1600, 125, 1600), 25));
         for look in &worker.looks {
             assert!(rt; calls.starts_with(look.as_slice()));
         }

@@ -1,6 +1,6 @@
 use mathlib.Core.List.{[], ◌∷◌}
 use denote.RattleType.{RattleType}
-use denote.Param.Send.{IsSend, IsSync, sendable}
+use denote.Param.Send.{IsSend, sendable}
 use denote.Struct.Field.{u64-field, unit-field}
 use denote.Struct.Tuple.{Tuple}
 use Rattle.std.specs.contracts.option.Option as option

@@ -1,5 +1,4 @@
-use denote.RattleType.{RattleType}
-use denote.Param.Send.{IsSend, IsSync, sendable}
+use denote.Param.Send.{IsSend, sendable}
 use denote.Struct.Field.{u64-field, unit-field}
 use Rattle.std.proofs.Crossing.{crosses}
 use Rattle.std.specs.contracts.alloc.Global as global
