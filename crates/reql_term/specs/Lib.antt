@@ -1,0 +1,9 @@
+pub mod Table
+pub mod OpCode
+pub mod OpLaws
+pub mod Params
+pub mod Form
+pub mod FormCode
+pub mod View
+pub mod Falls
+pub mod Views
