@@ -4,6 +4,6 @@
 #[cfg(test)]
 mod datum;
 #[cfg(test)]
-mod json;
-#[cfg(test)]
 mod size;
+#[cfg(test)]
+mod values;
