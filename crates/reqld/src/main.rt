@@ -53,6 +53,17 @@ fn words_of(rt: &HostRuntime) -> io::Result<Vec<String>> {
     Ok(words)
 }
 
+// Says on standard error why the words can't be read.
+fn unread(rt: &HostRuntime, kind: ErrorKind) -> ExitCode {
+    if kind == ErrorKind::OutOfMemory {
+        let _ = eprintln!(rt; "reqld: out of memory");
+        ExitCode::from(8)
+    } else {
+        let _ = eprintln!(rt; "reqld: a word is not UTF-8; reqld --help says how to use it");
+        ExitCode::from(2)
+    }
+}
+
 // Says on standard error why the words are wrong. A message that can't be written is let go.
 fn complain(rt: &HostRuntime, command: Command<'_>) -> ExitCode {
     let _ = match command {
@@ -70,9 +81,9 @@ fn complain(rt: &HostRuntime, command: Command<'_>) -> ExitCode {
 
 fn main(rt: HostRuntime) -> ExitCode {
     let alloc = rt.alloc();
-    let Ok(words) = words_of(&rt) else {
-        let _ = eprintln!(rt; "reqld: the words are not UTF-8, or there is no memory for them");
-        return ExitCode::from(2);
+    let words = match words_of(&rt) {
+        Ok(words) => words,
+        Err(error) => return unread(&rt, error.kind()),
     };
     match command_of(&words) {
         Command::Serve { .. } => ExitCode::from(run(alloc, &words, StdLink::new(rt)).status),
