@@ -17,8 +17,9 @@ mod top;
 mod words;
 
 use reql_outside::StdLink;
+use std::env;
+use std::io::{self, ErrorKind};
 use std::process::ExitCode;
-use std::{env, io};
 use top::run;
 use words::{Command, Wanted, command_of};
 
