@@ -1,4 +1,4 @@
-use Rattle.std.specs.Prelude.{ℕ, Bool, true, false}
+use Rattle.std.specs.Prelude.{ℕ}
 use Rattle.reqld.specs.declared.ending.End.{End}
 use Rattle.reqld.specs.declared.ending.End.TheVariants as ends
 
@@ -12,9 +12,3 @@ status_of ends.Refused = 7
 status_of ends.Memory = 8
 status_of (ends.TooLong len) = 9
 status_of ends.Worn = 9
-
--- whether the input was over
-abbrev pub is_over : End → Bool
-is_over ends.Closed = true
-is_over (ends.Cut held) = true
-is_over end = false

@@ -111,6 +111,75 @@ fn sessions_are_answered_to_the_byte(rt: HostRuntime) -> Result<(), Fail> {
     Ok(())
 }
 
+// The answer of one value, at a point where each entry has made one change.
+fn answer_of(alloc: Global, value: &str, place: u64) -> Result<String, Fail> {
+    Ok(format!(in alloc;
+        "{{\"n\":[],\"r\":[{value}],\"s\":{{\"c\":0,\"t\":[[0,{place},{place}]]}},\"t\":1}}"
+    )?)
+}
+
+fn put(bytes: &mut Vec<u8>, token: u64, body: &str) -> Result<(), Fail> {
+    match put_frame(bytes, token, body.as_bytes()) {
+        Ok(()) => Ok(()),
+        Err(_) => Err(Fail::from("memory")),
+    }
+}
+
+#[test]
+fn documents_of_every_built_kind_are_kept_and_found(rt: HostRuntime) -> Result<(), Fail> {
+    let alloc = rt.alloc();
+    let documents = [
+        ("2", "{\"a\":null,\"b\":true,\"id\":2}"),
+        ("1", "{\"c\":false,\"d\":\"x\\\"y\",\"id\":1}"),
+        ("\"a\"", "{\"id\":\"a\",\"n\":-1}"),
+        ("-9007199254740992", "{\"id\":-9007199254740992}"),
+        ("9007199254740992", "{\"id\":9007199254740992}"),
+        ("0", "{\"id\":0,\"n\":9007199254740992}"),
+    ];
+    let summary =
+        "{\"deleted\":0,\"errors\":0,\"inserted\":1,\"replaced\":0,\"skipped\":0,\"unchanged\":0}";
+    let mut input = GREETING.to_vec(alloc)?;
+    let mut output = b"SUCCESS\0".to_vec(alloc)?;
+    let mut place: u64 = 0;
+    for (_, document) in documents {
+        place = place.saturating_add(1);
+        let insert = format!(in alloc; "[1,[56,[[15,[\"docs\"]],{document}]]]")?;
+        put(&mut input, place, insert.as_str())?;
+        put(
+            &mut output,
+            place,
+            answer_of(alloc, summary, place)?.as_str(),
+        )?;
+    }
+    for (key, document) in documents {
+        let get = format!(in alloc; "[1,[16,[[15,[\"docs\"]],{key}]]]")?;
+        put(&mut input, 7, get.as_str())?;
+        put(&mut output, 7, answer_of(alloc, document, place)?.as_str())?;
+    }
+    put(&mut input, 8, "[1,[16,[[15,[\"docs\"]],3]]]")?;
+    put(&mut output, 8, answer_of(alloc, "null", place)?.as_str())?;
+    let first = served(alloc, link_of(alloc, &[&input])?)?;
+    expect(&rt, &first, 0, &output, documents.len());
+    Ok(())
+}
+
+#[test]
+fn a_document_longer_than_one_piece_is_kept(rt: HostRuntime) -> Result<(), Fail> {
+    let alloc = rt.alloc();
+    let mut text = String::new(alloc);
+    for _ in 0..10_000 {
+        text.push_str("a long text ")?;
+    }
+    let document = format!(in alloc; "{{\"id\":1,\"t\":\"{text}\"}}")?;
+    let insert = format!(in alloc; "[1,[56,[[15,[\"docs\"]],{document}]]]")?;
+    let input = with_frames(alloc, GREETING, &[insert.as_str(), GET])?;
+    let got = answer_of(alloc, document.as_str(), 1)?;
+    let output = with_frames(alloc, b"SUCCESS\0", &[INSERTED, got.as_str()])?;
+    let first = served(alloc, link_of(alloc, &[&input])?)?;
+    expect(&rt, &first, 0, &output, 1);
+    Ok(())
+}
+
 #[test]
 fn input_that_ends_early_or_is_refused_has_its_status(rt: HostRuntime) -> Result<(), Fail> {
     let alloc = rt.alloc();
@@ -206,6 +275,21 @@ fn every_fault_of_the_link_ends_the_session_with_the_answers_before_it(
         let first = faulty(alloc, &input, usize::MAX, send as u64)?;
         let entries = if send < b"SUCCESS\0".len() { 0 } else { 1 };
         expect(&rt, &first, 5, &output[..send], entries);
+    }
+    Ok(())
+}
+
+#[test]
+fn no_request_is_handled_after_a_failed_send(rt: HostRuntime) -> Result<(), Fail> {
+    let alloc = rt.alloc();
+    let input = with_frames(alloc, GREETING, &[INSERT, INSERT, INSERT])?;
+    for send in 0..4 {
+        let mut script = Vec::new(alloc);
+        script.push(LinkStep::Give(input.clone()?))?;
+        let mut fails = Vec::new(alloc);
+        fails.push(send as u64)?;
+        let first = served(alloc, MemLink::new(alloc, script, fails))?;
+        assert_eq!(rt; (first.status, first.history.len()), (5, send));
     }
     Ok(())
 }

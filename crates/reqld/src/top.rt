@@ -121,8 +121,8 @@ fn serve_link<L: Link>(alloc: Global, name: &str, link: L) -> First<L::Record>
 
 /// Serves one session over a link, on the table that the words name, which is empty at first.
 ///
-/// The words are `stdio --table test.NAME`. With any other words the status is 2 and the link is
-/// not used. Where the link tells its bytes, what was given and sent is known: the answer to the
+/// The words are `stdio --table test.NAME`. With any other words the status is 2, and no record is
+/// there. Where the link tells its bytes, what was given and sent is known: the answer to the
 /// greeting and then, for each whole frame in order, its answer by the entries before it.
 pub fn run<L: Link + Drop>(alloc: Global, words: &[String], stdio: L) -> First<L::Record>
     ensures words { (table_of_words (map string_bytes words.now) ≡ None) ↔ (result.status ≡ 2) }

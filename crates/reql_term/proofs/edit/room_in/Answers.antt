@@ -4,4 +4,4 @@ use Rattle.reql_term.proofs.edit.room_in.Goals as goal
 
 pub returns-then-is_lt-clause-absent : goal.returns-then-is_lt-clause-absent
 returns-then-is_lt-clause-absent c =
-    gap_last c.args.held.now c.args.name.now c.in-Some.last.now c.requires.rising c.in-Some.ensures.value (sym c.order.ensures ∙ is_less c.order.result (sym c.if-is_lt.true ∙ c.is_lt.ensures))
+    gap_last c.args.held.now c.args.name.now c.in-Some.last.now c.requires.rising c.in-Some.ensures.value (sym c.order.ensures.answer ∙ is_less c.order.result (sym c.if-is_lt.true ∙ c.is_lt.ensures))
