@@ -1,0 +1,16 @@
+-- One step of a loop over the parts of a list, with what is done and what is still to come.
+use Rattle.std.proofs.Common.{◌≡◌, List, [], ◌∷◌, ◌++◌, Result, Ok, Err, refl, sym, ap, append_assoc}
+use Rattle.reql_datum.specs.Answer.{◌>>=◌}
+use Rattle.reql_read.specs.declared.fault.ReadFault.{ReadFault}
+
+module _ {A B : Type 0} where
+  abbrev pub read_on : Result A ReadFault → (A → B) → Result (List B) ReadFault → List B → Result (List B) ReadFault
+  read_on one f later out = (one >>= λ a. later >>= λ bs. Ok (f a ∷ bs)) >>= λ bs. Ok (out ++ bs)
+
+  read_later : (f : A → B) (x : A) (later : Result (List B) ReadFault) (out : List B) → read_on (Ok x) f later out ≡ (later >>= λ bs. Ok ((out ++ f x ∷ []) ++ bs))
+  read_later f x (Ok bs) out = ap Ok (sym (append_assoc out (f x ∷ []) bs))
+  read_later f x (Err e) out = refl
+
+  pub read_step : (whole : Result (List B) ReadFault) (one : Result A ReadFault) (f : A → B) (later : Result (List B) ReadFault) (x : A) (out new : List B)
+      → whole ≡ read_on one f later out → one ≡ Ok x → new ≡ out ++ f x ∷ [] → whole ≡ (later >>= λ bs. Ok (new ++ bs))
+  read_step whole one f later x out new known is added = rw (known, is, added) (read_later f x later out)

@@ -1,0 +1,20 @@
+-- The measure of a walk of a JSON value: a list is above each of its members, and a value above its list.
+use Rattle.std.specs.Prelude.{ℕ, suc, ◌+◌}
+use Rattle.serde_json.specs.Data.{Data, null, boolean, number, string, array, object, Items, no_items, item, Members, no_members, member}
+
+abbrev mutual
+  pub weight : Data → ℕ
+  weight null = 0
+  weight (boolean b) = 0
+  weight (number n) = 0
+  weight (string s) = 0
+  weight (array ds) = suc (items_weight ds)
+  weight (object ms) = suc (members_weight ms)
+
+  pub items_weight : Items → ℕ
+  items_weight no_items = 0
+  items_weight (item d ds) = suc (weight d + items_weight ds)
+
+  pub members_weight : Members → ℕ
+  members_weight no_members = 0
+  members_weight (member k d ms) = suc (weight d + members_weight ms)
