@@ -1,3 +1,4 @@
 pub mod Ids
 pub mod Weights
 pub mod Steps
+pub mod Texts

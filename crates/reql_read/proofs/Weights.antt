@@ -1,10 +1,12 @@
 -- The parts of a term weigh less than the term.
-use Rattle.std.proofs.Common.{◌≡◌, ℕ, zero, suc, ◌<◌, ◌≤◌, length, get_or, List, [], ◌∷◌, Ok, Err, refl, ap, arith}
+use Rattle.std.proofs.Common.{◌≡◌, ℕ, zero, suc, ◌<◌, ◌≤◌, length, get_or, List, [], ◌∷◌, Some, nat_eq, false, sym, Ok, Err, refl, ap, arith}
+use Rattle.std.proofs.lemmas.Bool.Decides.{nat_tests}
 use Rattle.serde_json.specs.Data.{Data, null, boolean, number, string, array, object, Items, no_items, item, Members, no_members, member}
 use Rattle.serde_json.specs.View.{view, items_view, members_view}
 use Rattle.serde_json.specs.declared.value.Value.{Value}
 use Rattle.reql_read.specs.Parts.{items_in, members_in, options_in, items_count}
 use Rattle.reql_json.proofs.Rising.{Entry}
+use Rattle.reql_read.specs.Query.{are_none}
 use Rattle.reql_read.specs.Weight.{weight, items_weight, members_weight}
 
 pub item_below : (vs : List Value) (i : ℕ) (d : Value) → i < length vs → weight (view (get_or vs i d)) < items_weight (items_view vs)
@@ -37,6 +39,13 @@ options_below (item d (item e ds)) ms h = cc
 pub count_seen : (vs : List Value) → items_count (items_view vs) ≡ length vs
 count_seen [] = refl
 count_seen (v ∷ vs) = ap suc (count_seen vs)
+
+not_zero : (n : ℕ) → nat_eq (suc n) 0 ≡ false
+not_zero n = grind (arith, nat_tests)
+
+pub none_seen : (es : List Entry) → are_none (Some (members_view es)) ≡ nat_eq (length es) 0
+none_seen [] = refl
+none_seen (e ∷ es) = sym (not_zero (length es))
 
 -- what is left of a map weighs no more
 pub left_weighs : (now left : List Entry) (e : Entry) (m : ℕ) → now ≡ e ∷ left → members_weight (members_view now) ≤ m → members_weight (members_view left) ≤ m

@@ -38,6 +38,25 @@ abbrev pub options_in : Items → Result Members ReadFault
 options_in no_items = Ok no_members
 options_in (item d ds) = ended ds (members_in d)
 
+-- a term as it is written: its number, its arguments and its optional arguments, where missing ones are none
+abbrev pub Written : Type 0
+Written = ℕ × (Items × Members)
+
+abbrev pub written_after : ℕ → Items → Result Written ReadFault
+written_after n no_items = Ok (n, (no_items, no_members))
+written_after n (item args ds) = items_in args >>= λ items. options_in ds >>= λ opts. Ok (n, (items, opts))
+
+abbrev pub written_term : Items → Result Written ReadFault
+written_term no_items = Err BadShape
+written_term (item n ds) = number_in n >>= λ k. written_after k ds
+
+abbrev pub written : Data → Result Written ReadFault
+written d = items_in d >>= written_term
+
+-- an array of ids, written [2, [id, ..]]
+abbrev pub array_in : Data → Result (Items × Members) ReadFault
+array_in d = written d >>= λ w. if nat_eq w.0 2 then Ok w.1 else Err BadShape
+
 -- the one member of a list of one
 abbrev pub one_in : Items → Result Data ReadFault
 one_in no_items = Err BadShape

@@ -7,7 +7,7 @@ use Rattle.reql_json.specs.Reading.{document}
 use Rattle.reql_term.specs.Form.{Form, literal, several, keyed, variable, implicit, function, operation, forms_of, named_of}
 use Rattle.reql_term.specs.declared.op.Op.{Op}
 use Rattle.reql_term.specs.declared.op.Op.TheVariants as op
-use Rattle.reql_read.specs.Parts.{number_in, items_in, members_in, options_in, one_in, ids_of, all_taken, checked, unless_reserved, literal_of}
+use Rattle.reql_read.specs.Parts.{number_in, items_in, members_in, options_in, one_in, array_in, ids_of, all_taken, checked, unless_reserved, literal_of}
 use Rattle.reql_read.specs.declared.fault.ReadFault.{ReadFault}
 use Rattle.reql_read.specs.declared.fault.ReadFault.TheVariants.{BadShape}
 
@@ -30,27 +30,13 @@ function_of ids body = ids >>= λ ns. body >>= λ f. Ok (function ns f)
 abbrev pub variable_of : Items → Result Form ReadFault
 variable_of args = one_in args >>= λ d. number_in d >>= λ id. Ok (variable id)
 
--- the ids in the first argument of a function, which is an array of them, written [2, [id, ..]]
-abbrev pub array_after : Data → Items → Result Items ReadFault
-array_after args ds = options_in ds >>= λ opts. all_taken op.MakeArray opts >>= λ t. items_in args
-
-abbrev pub array_items : Items → Result Items ReadFault
-array_items no_items = Ok no_items
-array_items (item args ds) = array_after args ds
-
-abbrev pub array_numbered : Data → Items → Result Items ReadFault
-array_numbered n ds = number_in n >>= λ k. if nat_eq k 2 then array_items ds else Err BadShape
-
-abbrev pub array_term : Items → Result Items ReadFault
-array_term no_items = Err BadShape
-array_term (item n ds) = array_numbered n ds
-
-abbrev pub array_of : Data → Result Items ReadFault
-array_of d = items_in d >>= array_term
+-- the ids in the first argument of a function, which is an array of them and has no optional argument
+abbrev pub plain_ids : Data → Result (List ℕ) ReadFault
+plain_ids d = array_in d >>= λ a. all_taken op.MakeArray a.1 >>= λ t. ids_of a.0
 
 abbrev pub first_ids : Items → Result (List ℕ) ReadFault
 first_ids no_items = Err BadShape
-first_ids (item d ds) = array_of d >>= ids_of
+first_ids (item d ds) = plain_ids d
 
 -- a term of a number, over what its arguments, its optional arguments and its second argument are
 abbrev pub by_number : ℕ → Op → Items → Members → Result (List Form) ReadFault → Result Named ReadFault → Result Form ReadFault → Result Form ReadFault

@@ -2,7 +2,11 @@
 #![tactic(auto)]
 
 mod fault;
+mod globals;
 mod parts;
+mod query;
 mod read;
+mod shape;
 
 pub use fault::ReadFault;
+pub use query::{Globals, Query, Unread, read_query};

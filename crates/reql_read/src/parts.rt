@@ -2,8 +2,8 @@
 ghost use Rattle.std.specs.Prelude.{◌≡◌, ◌++◌, map, codes};
 ghost use Rattle.serde_json.specs.View.{view, items_view, members_view};
 ghost use Rattle.reql_read.specs.Outcome.{Reads};
-ghost use Rattle.reql_read.specs.Parts.{number_in, items_in, members_in, options_in, one_in, ids_of, op_named, counted, all_taken, checked, has_name};
-ghost use Rattle.reql_read.specs.Seen.{optional};
+ghost use Rattle.reql_read.specs.Parts.{number_in, items_in, members_in, options_in, written_after, written_term, written, array_in, one_in, ids_of, op_named, counted, all_taken, checked, has_name};
+ghost use Rattle.reql_read.specs.Seen.{optional, written_seen, array_seen};
 
 use crate::fault::ReadFault;
 use reql_datum::Name;
@@ -48,6 +48,43 @@ pub(crate) fn options_in(rest: &[Value]) -> Result<Option<&Map<String, Value>>, 
         return Err(ReadFault::BadShape);
     };
     Ok(Some(members_in(options)?))
+}
+
+/// A term as it is written: its number, its arguments and its optional arguments.
+pub(crate) type Written<'a> = (u64, (&'a [Value], Option<&'a Map<String, Value>>));
+
+fn written_after(number: u64, rest: &[Value]) -> Result<Written<'_>, ReadFault>
+    ensures { Reads written_seen result (written_after number (items_view rest.now)) }
+{
+    let [args, after @ ..] = rest else {
+        return Ok((number, (rest, None)));
+    };
+    Ok((number, (items_in(args)?, options_in(after)?)))
+}
+
+fn written_term(term: &[Value]) -> Result<Written<'_>, ReadFault>
+    ensures { Reads written_seen result (written_term (items_view term.now)) }
+{
+    let [number, rest @ ..] = term else {
+        return Err(ReadFault::BadShape);
+    };
+    written_after(number_in(number)?, rest)
+}
+
+pub(crate) fn written(v: &Value) -> Result<Written<'_>, ReadFault>
+    ensures { Reads written_seen result (written (view v.now)) }
+{
+    written_term(items_in(v)?)
+}
+
+/// The items and the optional arguments of an array, as it is written as a term.
+pub(crate) fn array_in(v: &Value) -> Result<(&[Value], Option<&Map<String, Value>>), ReadFault>
+    ensures { Reads array_seen result (array_in (view v.now)) }
+{
+    match written(v)? {
+        (2, array) => Ok(array),
+        _ => Err(ReadFault::BadShape),
+    }
 }
 
 /// The one member of a list of one.

@@ -5,11 +5,13 @@ ghost use Rattle.reql_json.specs.Reading.{document};
 ghost use Rattle.reql_term.specs.View.{form_of};
 ghost use Rattle.reql_read.specs.Outcome.{Reads};
 ghost use Rattle.reql_read.specs.Parts.{literal_of, unless_reserved, ids_of};
-ghost use Rattle.reql_read.specs.Reading.{read, read_term, read_parts, read_second, read_first, read_all, read_named, called, by_number, keyed_of, several_of, operation_of, function_of, variable_of, array_after, array_items, array_term, array_of, first_ids};
+ghost use Rattle.reql_read.specs.Reading.{read, read_term, read_parts, read_second, read_first, read_all, read_named, called, by_number, keyed_of, several_of, operation_of, function_of, variable_of, plain_ids, first_ids};
 ghost use Rattle.reql_read.specs.Seen.{optional};
 
 use crate::fault::ReadFault;
-use crate::parts::{all_taken, checked, has_name, ids_of, items_in, number_in, one_in, options_in};
+use crate::parts::{
+    all_taken, array_in, checked, has_name, ids_of, items_in, number_in, one_in, options_in,
+};
 use reql_datum::Name;
 use reql_json::{JsonFault, from_value};
 use reql_term::{Body, Op, Params, Term, TermFields, Terms};
@@ -33,52 +35,22 @@ fn variable_of(args: &[Value]) -> Result<Term, ReadFault>
     Ok(Term::Var(number_in(one_in(args)?)?))
 }
 
-// The items of an array of a term, from its arguments on.
-fn array_after<'a>(alloc: Global, args: &'a Value, rest: &[Value]) -> Result<&'a [Value], ReadFault>
-    ensures { Reads (λ s. items_view s.now) result (array_after (view args.now) (items_view rest.now)) }
+fn plain_ids(alloc: Global, v: &Value) -> Result<Params, ReadFault>
+    ensures { Reads (λ ids. ids) result (plain_ids (view v.now)) }
 {
-    let options = options_in(rest)?;
+    let (items, options) = array_in(v)?;
     all_taken(alloc, Op::MakeArray, options)?;
-    items_in(args)
+    ids_of(alloc, items)
 }
 
-fn array_items(alloc: Global, rest: &[Value]) -> Result<&[Value], ReadFault>
-    ensures { Reads (λ s. items_view s.now) result (array_items (items_view rest.now)) }
-{
-    match rest {
-        [args, rest @ ..] => array_after(alloc, args, rest),
-        [] => Ok(rest),
-    }
-}
-
-fn array_term(alloc: Global, term: &[Value]) -> Result<&[Value], ReadFault>
-    ensures { Reads (λ s. items_view s.now) result (array_term (items_view term.now)) }
-{
-    let [number, rest @ ..] = term else {
-        return Err(ReadFault::BadShape);
-    };
-    if number_in(number)? == 2 {
-        array_items(alloc, rest)
-    } else {
-        Err(ReadFault::BadShape)
-    }
-}
-
-/// The items of an array, as it is written as a term.
-pub(crate) fn array_of(alloc: Global, v: &Value) -> Result<&[Value], ReadFault>
-    ensures { Reads (λ s. items_view s.now) result (array_of (view v.now)) }
-{
-    array_term(alloc, items_in(v)?)
-}
-
-/// The ids in the first argument of a function.
-pub(crate) fn first_ids(alloc: Global, args: &[Value]) -> Result<Params, ReadFault>
+// The ids in the first argument of a function.
+fn first_ids(alloc: Global, args: &[Value]) -> Result<Params, ReadFault>
     ensures { Reads (λ ids. ids) result (first_ids (items_view args.now)) }
 {
     let [ids, ..] = args else {
         return Err(ReadFault::BadShape);
     };
-    ids_of(alloc, array_of(alloc, ids)?)
+    plain_ids(alloc, ids)
 }
 
 /// The term that a JSON value is, or the first fault in preorder.
