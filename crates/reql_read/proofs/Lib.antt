@@ -1,4 +1,5 @@
 pub mod Ids
 pub mod Weights
 pub mod Steps
-pub mod Texts
+pub mod Bodies
+pub mod Back

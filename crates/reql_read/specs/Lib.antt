@@ -5,4 +5,6 @@ pub mod Reading
 pub mod Shape
 pub mod Query
 pub mod View
+pub mod FaultText
 pub mod Weight
+pub mod Spelling

@@ -1,5 +1,5 @@
 -- What a body asks for: the query, or the first fault.
-use Rattle.std.specs.Prelude.{◌≡◌, ℕ, ◌≤◌, List, [], ◌∷◌, map, codes, Bool, true, false, ◌&&◌, cond, nat_eq, nat_le, min, if◌then◌else◌, Option, Some, None, option_and_then, Result, Ok, Err}
+use Rattle.std.specs.Prelude.{ℕ, List, map, codes, Bool, true, false, ◌&&◌, cond, nat_eq, nat_le, min, if◌then◌else◌, Option, Some, None, option_and_then, Result, Ok, Err}
 use Rattle.std.specs.Ordering.{is_eq}
 use Rattle.std.specs.Str.{is_utf8}
 use Rattle.serde_json.specs.Data.{Data, Items, no_items, item, Members, no_members, member}
@@ -9,7 +9,6 @@ use Rattle.reql_datum.specs.Answer.{◌>>=◌}
 use Rattle.reql_datum.specs.Members.{text_order}
 use Rattle.reql_term.specs.Form.{Form}
 use Rattle.reql_term.specs.Table.{is_among}
-use Rattle.reql_term.specs.View.{form_of}
 use Rattle.reql_read.specs.Parts.{number_in, items_in, options_in}
 use Rattle.reql_read.specs.Reading.{read}
 use Rattle.reql_read.specs.Shape.{shaped}

@@ -4,10 +4,10 @@ use Rattle.std.specs.Prelude.{ℕ, List, [], ◌∷◌, nat_eq, if◌then◌else
 use Rattle.serde_json.specs.Data.{Data, null, boolean, number, string, array, object, Items, no_items, item, Members, no_members, member}
 use Rattle.reql_datum.specs.Answer.{◌>>=◌}
 use Rattle.reql_json.specs.Reading.{document}
-use Rattle.reql_term.specs.Form.{Form, literal, several, keyed, variable, implicit, function, operation, forms_of, named_of}
+use Rattle.reql_term.specs.Form.{Form, several, keyed, variable, implicit, function, operation, forms_of, named_of}
 use Rattle.reql_term.specs.declared.op.Op.{Op}
 use Rattle.reql_term.specs.declared.op.Op.TheVariants as op
-use Rattle.reql_read.specs.Parts.{number_in, items_in, members_in, options_in, one_in, array_in, ids_of, all_taken, checked, unless_reserved, literal_of}
+use Rattle.reql_read.specs.Parts.{number_in, items_in, options_in, one_in, array_in, ids_of, all_taken, checked, unless_reserved, literal_of}
 use Rattle.reql_read.specs.declared.fault.ReadFault.{ReadFault}
 use Rattle.reql_read.specs.declared.fault.ReadFault.TheVariants.{BadShape}
 

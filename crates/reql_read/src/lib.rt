@@ -3,10 +3,13 @@
 
 mod fault;
 mod globals;
+mod laws;
 mod parts;
 mod query;
 mod read;
 mod shape;
+mod texts;
 
 pub use fault::ReadFault;
+pub use laws::reading_laws;
 pub use query::{Globals, Query, Unread, read_query};

@@ -1,6 +1,6 @@
-use Rattle.std.proofs.Common.{◌≡◌, Err, false, refl, sym, ◌∙◌, subst}
+use Rattle.std.proofs.Common.{Err, false, refl, sym, ◌∙◌, subst}
 use Rattle.serde_json.specs.View.{view}
-use Rattle.reql_read.proofs.Texts.{no_json, is_json}
+use Rattle.reql_read.proofs.Bodies.{no_json, is_json}
 use Rattle.reql_read.specs.Outcome.{Reads}
 use Rattle.reql_read.specs.Query.{value_query, value_is_quiet}
 use Rattle.reql_read.specs.View.{asked}

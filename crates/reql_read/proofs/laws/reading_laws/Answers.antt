@@ -1,0 +1,5 @@
+use Rattle.reql_read.proofs.Back.{reads_back}
+use Rattle.reql_read.proofs.laws.reading_laws.Goals as goal
+
+pub returns : goal.returns
+returns c = record { reads_back = reads_back }

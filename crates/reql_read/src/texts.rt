@@ -1,0 +1,90 @@
+// What a client is told of a fault of reading.
+ghost use Rattle.std.specs.Prelude.{◌≡◌, ◌++◌, codes, IfOk, string_bytes};
+ghost use Rattle.std.specs.Fmt.{decimal};
+ghost use Rattle.reql_read.specs.FaultText.{fault_text, number_text, answer_type};
+
+use crate::fault::ReadFault;
+use reql_datum::{Memory, Name};
+use reql_json::JsonFault;
+use std::alloc::Global;
+
+fn number_text(fault: JsonFault) -> &'static str
+    ensures { result.now ≡ number_text fault }
+{
+    match fault {
+        JsonFault::Fraction => "Number is not whole.",
+        JsonFault::OverRange => "Number outside the range of whole numbers.",
+        JsonFault::Reserved => "Reserved name `$reql_type$`.",
+        JsonFault::Memory => "Out of memory.",
+    }
+}
+
+fn unknown(alloc: Global, number: u64) -> Result<Name, Memory>
+    ensures { IfOk result (λ s. s ≡ codes "Unknown term " ++ decimal number ++ codes ".") }
+{
+    match format!(in alloc; "Unknown term {}.", number) {
+        Ok(text) => Name::of(alloc, text.as_str()),
+        Err(_) => Err(Memory),
+    }
+}
+
+fn left_out(alloc: Global, number: u32) -> Result<Name, Memory>
+    ensures { IfOk result (λ s. s ≡ codes "Term " ++ decimal number ++ codes " is not supported.") }
+{
+    match format!(in alloc; "Term {} is not supported.", number) {
+        Ok(text) => Name::of(alloc, text.as_str()),
+        Err(_) => Err(Memory),
+    }
+}
+
+fn arity(alloc: Global, number: u32, count: u32) -> Result<Name, Memory>
+    ensures { IfOk result (λ s. s ≡ codes "Term " ++ (decimal number ++ (codes " does not take " ++ (decimal count ++ codes " arguments.")))) }
+{
+    match format!(in alloc; "Term {} does not take {} arguments.", number, count) {
+        Ok(text) => Name::of(alloc, text.as_str()),
+        Err(_) => Err(Memory),
+    }
+}
+
+fn bad_option(alloc: Global, name: &Name) -> Result<Name, Memory>
+    ensures { IfOk result (λ s. s ≡ codes "Unrecognized optional argument `" ++ name.now ++ codes "`.") }
+{
+    match format!(in alloc; "Unrecognized optional argument `{}`.", name.as_str()) {
+        Ok(text) => Name::of(alloc, text.as_str()),
+        Err(_) => Err(Memory),
+    }
+}
+
+impl ReadFault {
+    /// The text that a client is told.
+    pub fn text(&self, alloc: Global) -> Result<Name, Memory>
+        ensures { IfOk result (λ s. s ≡ fault_text self.now) }
+    {
+        match self {
+            ReadFault::NotJson => Name::of(alloc, "Query is not JSON."),
+            ReadFault::BadShape => Name::of(alloc, "Query has a wrong shape."),
+            ReadFault::UnknownTerm(number) => unknown(alloc, *number),
+            ReadFault::LeftOut(number) => left_out(alloc, *number),
+            ReadFault::Arity(number, count) => arity(alloc, *number, *count),
+            ReadFault::BadOptarg(name) => bad_option(alloc, name),
+            ReadFault::Number(fault) => Name::of(alloc, number_text(*fault)),
+            ReadFault::Memory => Name::of(alloc, "Out of memory."),
+        }
+    }
+
+    /// The type of the answer that tells it: 16 for a client error, 17 for a compile error, and 18, a
+    /// runtime error, where memory ran out.
+    pub fn answer_type(&self) -> u8
+        ensures { result ≡ answer_type self.now }
+    {
+        match self {
+            ReadFault::NotJson | ReadFault::BadShape => 16,
+            ReadFault::Memory => 18,
+            ReadFault::UnknownTerm(_)
+            | ReadFault::LeftOut(_)
+            | ReadFault::Arity(_, _)
+            | ReadFault::BadOptarg(_)
+            | ReadFault::Number(_) => 17,
+        }
+    }
+}
