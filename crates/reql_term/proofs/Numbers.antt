@@ -1,5 +1,5 @@
 -- The numbers of the operators, computed over the whole table.
-use Rattle.std.proofs.Common.{◌≡◌, ℕ, zero, suc, ◌<◌, ◌≤◌, List, [], ◌∷◌, length, map, take, get_or, Some, Bool, true, false, ◌&&◌, if◌then◌else◌, nat_eq, nat_le, nat_lt, refl, sym, ap, ◌∙◌, arith, inl, inr}
+use Rattle.std.proofs.Common.{◌≡◌, ℕ, zero, suc, ◌<◌, ◌≤◌, List, [], ◌∷◌, length, map, take, get_or, Some, Bool, true, false, ◌&&◌, if◌then◌else◌, nat_eq, nat_le, nat_lt, refl, sym, ap, subst, ◌∙◌, arith, inl, inr}
 use Rattle.std.proofs.lemmas.Bool.Decides.{nat_tests}
 use denote.Enum.Declared.{rowss}
 use denote.Enum.Enum.{Sum, tag}
@@ -9,6 +9,7 @@ use Rattle.reql_term.specs.declared.op.Op.{Op}
 use Rattle.reql_term.specs.declared.table.Row.{Row}
 use Rattle.reql_term.specs.declared.table.TheConstants.{TABLE, SERVED}
 use Rattle.reql_term.specs.OpCode.{op_back}
+use Rattle.reql_term.specs.OpLaws.{IsServed}
 use Rattle.reql_term.specs.Table.{place, no_row, find_op, op_of, number_of}
 
 -- each row that is served is found by its number
@@ -83,3 +84,27 @@ in_bytes n low high = (grind (arith, nat_tests), grind (arith, nat_tests))
 
 pub byte : (op : Op) → (1 ≤ number_of op) × (number_of op ≤ 255)
 byte op = let h = byte_at TABLE (place op) (place_within op) all_bytes in in_bytes (number_of op) h.0 h.1
+
+-- an operator that a number names can be read
+all_served : List Row → Bool
+all_served [] = true
+all_served (r ∷ rs) = nat_lt (place r.op) SERVED && all_served rs
+
+are_served : all_served (take SERVED TABLE) ≡ true
+unfolding all_served
+are_served = refl
+
+lt_of : (a b : ℕ) → nat_lt a b ≡ true → a < b
+lt_of a b h = grind (arith, nat_tests)
+
+served_here : (b : Bool) (r : Row) (rs : List Row) (n : ℕ) (op : Op) → nat_lt (place r.op) SERVED ≡ true → (find_op rs n ≡ Some op → IsServed op) → (if b then Some r.op else find_op rs n) ≡ Some op → IsServed op
+served_here true r rs n op here later is = let e : r.op ≡ op = cc in subst IsServed e (lt_of (place r.op) SERVED here)
+served_here false r rs n op here later is = later is
+
+served_in : (rows : List Row) (n : ℕ) (op : Op) → all_served rows ≡ true → find_op rows n ≡ Some op → IsServed op
+unfolding all_served
+served_in [] n op all is = cc
+served_in (r ∷ rs) n op all is = let h = both _ _ all in served_here (nat_eq r.number n) r rs n op h.0 (served_in rs n op h.1) is
+
+pub served : (n : ℕ) (op : Op) → op_of n ≡ Some op → IsServed op
+served n op is = served_in (take SERVED TABLE) n op are_served is

@@ -17,6 +17,10 @@ IsNumbered = (op : Op) → IsServed op → op_of (number_of op) ≡ Some op
 abbrev pub IsNamed : Type 0
 IsNamed = (n : ℕ) (op : Op) → op_of n ≡ Some op → number_of op ≡ n
 
+-- and can be read
+abbrev pub IsNamedServed : Type 0
+IsNamedServed = (n : ℕ) (op : Op) → op_of n ≡ Some op → IsServed op
+
 -- the numbers of operators are above 0 and below 256
 abbrev pub IsByte : Type 0
 IsByte = (op : Op) → (1 ≤ number_of op) × (number_of op ≤ 255)
