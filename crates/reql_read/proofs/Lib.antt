@@ -3,3 +3,4 @@ pub mod Weights
 pub mod Steps
 pub mod Bodies
 pub mod Back
+pub mod Reached

@@ -70,7 +70,7 @@ abbrev mutual
   read_parts n (item args ds) =
       items_in args >>= λ items. options_in ds >>= λ opts. called n items opts (read_args args) (read_options ds) (read_body args)
 
-  read_args : Data → Result (List Form) ReadFault
+  pub read_args : Data → Result (List Form) ReadFault
   read_args null = Err BadShape
   read_args (boolean b) = Err BadShape
   read_args (number n) = Err BadShape
@@ -78,11 +78,11 @@ abbrev mutual
   read_args (array ds) = read_all ds
   read_args (object ms) = Err BadShape
 
-  read_options : Items → Result Named ReadFault
+  pub read_options : Items → Result Named ReadFault
   read_options no_items = Ok []
   read_options (item d ds) = read_members d
 
-  read_members : Data → Result Named ReadFault
+  pub read_members : Data → Result Named ReadFault
   read_members null = Err BadShape
   read_members (boolean b) = Err BadShape
   read_members (number n) = Err BadShape
@@ -90,7 +90,7 @@ abbrev mutual
   read_members (array ds) = Err BadShape
   read_members (object ms) = read_named ms
 
-  read_body : Data → Result Form ReadFault
+  pub read_body : Data → Result Form ReadFault
   read_body null = Err BadShape
   read_body (boolean b) = Err BadShape
   read_body (number n) = Err BadShape

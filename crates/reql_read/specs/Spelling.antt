@@ -12,6 +12,7 @@ use Rattle.reql_term.specs.Params.{AreDistinct}
 use Rattle.reql_term.specs.Table.{number_of, fits, takes}
 use Rattle.reql_term.specs.declared.op.Op.{Op}
 use Rattle.reql_read.specs.Query.{start, query, settings_of}
+use Rattle.reql_read.specs.Reading.{read}
 use Rattle.reql_read.specs.declared.globals.Settings.{Settings}
 
 -- a term as it is written: [number, arguments, optional arguments]
@@ -100,3 +101,7 @@ spelled_query f opts = json.array (json.item (json.number (json.unsigned 1)) (js
 -- a term that a body can hold, spelled with options, is read as the query of that term with these options
 abbrev pub ReadsBack : Type 0
 ReadsBack = (f : Form) (opts : json.Members) (s : Settings) → IsHeld f → settings_of opts ≡ Ok s → query (spelled_query f opts) ≡ Ok (start f s)
+
+-- what is read is a term that a body can hold
+abbrev pub ReadsHeld : Type 0
+ReadsHeld = (d : json.Data) (f : Form) → read d ≡ Ok f → IsHeld f
