@@ -1,6 +1,7 @@
 // Bodies as drivers write them, and their refusals.
-use reql_read::{Query, Unread, read_query};
-use std::alloc::Global;
+use reql_read::{Globals, Query, Unread, read_query};
+use reql_term::{Op, Term};
+use std::alloc::{AllocError, Global};
 use std::test::Fail;
 
 const READ: [&str; 110] = [
@@ -189,6 +190,89 @@ fn terms_of_drivers_are_read(rt: HostRuntime) -> Result<(), Fail> {
 fn the_first_fault_is_told(rt: HostRuntime) -> Result<(), Fail> {
     for (body, text) in &REFUSED {
         assert!(rt; is_refused(rt.alloc(), body, text));
+    }
+    Ok(())
+}
+
+fn has(globals: &Globals, db: &str, array_limit: u64, batch: u32) -> bool {
+    globals.db.as_str() == db && globals.array_limit == array_limit && globals.batch == batch
+}
+
+fn has_options(query: &Query, db: &str, array_limit: u64, batch: u32, quiet: bool) -> bool {
+    match query {
+        Query::Start { term: _, globals, noreply } =>
+            has(globals, db, array_limit, batch) && *noreply == quiet,
+        _ => false,
+    }
+}
+
+fn adds_a_variable(query: &Query) -> bool {
+    match query {
+        Query::Start { term: Term::Op { op: Op::Add, args, opts }, globals: _, noreply: _ } =>
+            matches!(args.at(1), Some(Term::Var(5))) && opts.is_empty(),
+        _ => false,
+    }
+}
+
+fn parameters(query: &Query) -> usize {
+    match query {
+        Query::Start { term: Term::Func(params, _), globals: _, noreply: _ } => params.len(),
+        _ => 0,
+    }
+}
+
+#[test]
+fn options_of_a_query_are_read(rt: HostRuntime) -> Result<(), Fail> {
+    let alloc = rt.alloc();
+    let body = "[1,1,{\"db\":[14,[\"d\"]],\"noreply\":true,\"array_limit\":7,\"max_batch_rows\":5000}]";
+    match read_query(alloc, body.as_bytes()) {
+        Ok(query) => assert!(rt; has_options(&query, "d", 7, 1000, true)),
+        Err(_) => assert!(rt; false),
+    }
+    match read_query(alloc, b"[1,[24,[1,[10,[5]]]]]") {
+        Ok(query) => {
+            assert!(rt; has_options(&query, "test", 100_000, 1000, false));
+            assert!(rt; adds_a_variable(&query));
+        }
+        Err(_) => assert!(rt; false),
+    }
+    Ok(())
+}
+
+fn refusal_wants_no_answer(alloc: Global, body: &str) -> bool {
+    match read_query(alloc, body.as_bytes()) {
+        Err(Unread { fault: _, noreply }) => noreply,
+        Ok(_) => false,
+    }
+}
+
+#[test]
+fn a_refusal_tells_whether_no_answer_is_wanted(rt: HostRuntime) -> Result<(), Fail> {
+    let alloc = rt.alloc();
+    assert!(rt; refusal_wants_no_answer(alloc, "[1,[1],{\"noreply\":true}]"));
+    assert!(rt; refusal_wants_no_answer(alloc, "[1,1,{\"noreply\":true},7]"));
+    assert!(rt; !refusal_wants_no_answer(alloc, "[1,[1],{\"noreply\":false}]"));
+    assert!(rt; !refusal_wants_no_answer(alloc, "[6,[1],{\"noreply\":true}]"));
+    Ok(())
+}
+
+fn function_body(alloc: Global, parameters: u32) -> Result<String, AllocError> {
+    let mut body = String::from_str(alloc, "[1,[69,[[2,[0")?;
+    for id in 1..parameters {
+        let piece = format!(in alloc; ",{id}")?;
+        body.push_str(piece.as_str())?;
+    }
+    body.push_str("]],1]]]")?;
+    Ok(body)
+}
+
+#[test]
+fn a_function_of_many_parameters_is_read(rt: HostRuntime) -> Result<(), Fail> {
+    let alloc = rt.alloc();
+    let body = function_body(alloc, 100_000)?;
+    match read_query(alloc, body.as_bytes()) {
+        Ok(query) => assert_eq!(rt; parameters(&query), 100_000),
+        Err(_) => assert!(rt; false),
     }
     Ok(())
 }
