@@ -139,29 +139,68 @@ const REFUSED: [(&str, &str); 44] = [
     ("[1,[255]]", "Term 255 is not supported."),
     ("[1,[1,[1.5]]]", "Term 1 is not supported."),
     ("[1,[101,[1]]]", "Term 101 is not supported."),
-    ("[1,[23,[],{\"a\":1}]]", "Term 23 does not take 0 arguments."),
+    (
+        "[1,[23,[],{\"a\":1}]]",
+        "Term 23 does not take 0 arguments.",
+    ),
     ("[1,[65,[1,2]]]", "Term 65 does not take 2 arguments."),
     ("[1,[143,[\"a\"]]]", "Term 143 does not take 1 arguments."),
     ("[1,[10,[1,2]]]", "Term 10 does not take 2 arguments."),
     ("[1,[10]]", "Term 10 does not take 0 arguments."),
     ("[1,[69,[[2,[1]]]]]", "Term 69 does not take 1 arguments."),
-    ("[1,[24,[[23,[]],1.5]]]", "Term 23 does not take 0 arguments."),
+    (
+        "[1,[24,[[23,[]],1.5]]]",
+        "Term 23 does not take 0 arguments.",
+    ),
     ("[1,[24,[1.5,[23,[]]]]]", "Number is not whole."),
-    ("[1,[30,[1.5,1],{\"x\":1,\"a\":2}]]", "Unrecognized optional argument `a`."),
-    ("[1,[24,[1.5],{\"a\":1}]]", "Unrecognized optional argument `a`."),
-    ("[1,[69,[[2,[1],{\"o\":1}],1.5]]]", "Unrecognized optional argument `o`."),
+    (
+        "[1,[30,[1.5,1],{\"x\":1,\"a\":2}]]",
+        "Unrecognized optional argument `a`.",
+    ),
+    (
+        "[1,[24,[1.5],{\"a\":1}]]",
+        "Unrecognized optional argument `a`.",
+    ),
+    (
+        "[1,[69,[[2,[1],{\"o\":1}],1.5]]]",
+        "Unrecognized optional argument `o`.",
+    ),
     ("[1,1.5]", "Number is not whole."),
     ("[1,-0]", "Number is not whole."),
-    ("[1,9007199254740993]", "Number outside the range of whole numbers."),
-    ("[1,{\"a\":1.5,\"b\":9007199254740993}]", "Number is not whole."),
+    (
+        "[1,9007199254740993]",
+        "Number outside the range of whole numbers.",
+    ),
+    (
+        "[1,{\"a\":1.5,\"b\":9007199254740993}]",
+        "Number is not whole.",
+    ),
     ("[1,{\"$reql_type$\":1.5}]", "Reserved name `$reql_type$`."),
-    ("[1,[3,[],{\"$reql_type$\":1,\"a\":1.5}]]", "Reserved name `$reql_type$`."),
+    (
+        "[1,[3,[],{\"$reql_type$\":1,\"a\":1.5}]]",
+        "Reserved name `$reql_type$`.",
+    ),
     ("[1,1.5,{\"x\":1}]", "Number is not whole."),
-    ("[1,1,{\"x\":1,\"db\":1}]", "Unrecognized optional argument `db`."),
-    ("[1,1,{\"array_limit\":1.5}]", "Unrecognized optional argument `array_limit`."),
-    ("[1,1,{\"max_batch_rows\":0}]", "Unrecognized optional argument `max_batch_rows`."),
-    ("[1,1,{\"profile\":true}]", "Unrecognized optional argument `profile`."),
-    ("[1,1,{\"noreply\":1}]", "Unrecognized optional argument `noreply`."),
+    (
+        "[1,1,{\"x\":1,\"db\":1}]",
+        "Unrecognized optional argument `db`.",
+    ),
+    (
+        "[1,1,{\"array_limit\":1.5}]",
+        "Unrecognized optional argument `array_limit`.",
+    ),
+    (
+        "[1,1,{\"max_batch_rows\":0}]",
+        "Unrecognized optional argument `max_batch_rows`.",
+    ),
+    (
+        "[1,1,{\"profile\":true}]",
+        "Unrecognized optional argument `profile`.",
+    ),
+    (
+        "[1,1,{\"noreply\":1}]",
+        "Unrecognized optional argument `noreply`.",
+    ),
 ];
 
 fn is_read(alloc: Global, body: &str) -> bool {
@@ -200,23 +239,37 @@ fn has(globals: &Globals, db: &str, array_limit: u64, batch: u32) -> bool {
 
 fn has_options(query: &Query, db: &str, array_limit: u64, batch: u32, quiet: bool) -> bool {
     match query {
-        Query::Start { term: _, globals, noreply } =>
-            has(globals, db, array_limit, batch) && *noreply == quiet,
+        Query::Start {
+            term: _,
+            globals,
+            noreply,
+        } => has(globals, db, array_limit, batch) && *noreply == quiet,
         _ => false,
     }
 }
 
 fn adds_a_variable(query: &Query) -> bool {
     match query {
-        Query::Start { term: Term::Op { op: Op::Add, args, opts }, globals: _, noreply: _ } =>
-            matches!(args.at(1), Some(Term::Var(5))) && opts.is_empty(),
+        Query::Start {
+            term: Term::Op {
+                op: Op::Add,
+                args,
+                opts,
+            },
+            globals: _,
+            noreply: _,
+        } => matches!(args.at(1), Some(Term::Var(5))) && opts.is_empty(),
         _ => false,
     }
 }
 
 fn parameters(query: &Query) -> usize {
     match query {
-        Query::Start { term: Term::Func(params, _), globals: _, noreply: _ } => params.len(),
+        Query::Start {
+            term: Term::Func(params, _),
+            globals: _,
+            noreply: _,
+        } => params.len(),
         _ => 0,
     }
 }
@@ -224,7 +277,8 @@ fn parameters(query: &Query) -> usize {
 #[test]
 fn options_of_a_query_are_read(rt: HostRuntime) -> Result<(), Fail> {
     let alloc = rt.alloc();
-    let body = "[1,1,{\"db\":[14,[\"d\"]],\"noreply\":true,\"array_limit\":7,\"max_batch_rows\":5000}]";
+    let body =
+        "[1,1,{\"db\":[14,[\"d\"]],\"noreply\":true,\"array_limit\":7,\"max_batch_rows\":5000}]";
     match read_query(alloc, body.as_bytes()) {
         Ok(query) => assert!(rt; has_options(&query, "d", 7, 1000, true)),
         Err(_) => assert!(rt; false),
