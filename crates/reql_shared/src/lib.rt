@@ -27,4 +27,3 @@ pub use laws::{
 pub use pass::Pass;
 pub use recorded::Recorded;
 pub use shared::Shared;
-pub use threads::{passes_cross_threads, threads_share_engines};

@@ -1,11 +1,11 @@
+use crate::order::are_equal;
 use reql_datum::{
-    Blob, Datum, Fields, Items, Memory, Moment, Name, NumFault, Refused, Seq, Whole, compare,
-    order_laws, zone_laws,
+    Blob, Datum, Fields, Items, Memory, Moment, Name, NumFault, Refused, Seq, Whole, order_laws,
+    zone_laws,
 };
 use reql_json::{from_value, text, to_value};
 use serde_json::Value;
 use std::alloc::Global;
-use std::cmp::Ordering;
 use std::test::Fail;
 
 fn number(n: i64) -> Datum {
@@ -105,7 +105,7 @@ fn times_and_bytes_stand_in_order(rt: HostRuntime) -> Result<(), Fail> {
     let longer = Datum::Binary(Blob::of(rt.alloc(), &[1, 2, 0])?);
     assert!(rt; Moment::of(at, 1440).is_none());
     assert!(rt; east < near && near < west && bytes < longer && longer < east);
-    assert!(rt; compare(&west, &west.copy()?) == Ordering::Equal);
+    assert!(rt; are_equal(&west, &west.copy()?));
     assert!(rt; west.is_key() && !Datum::Null.is_key());
     order_laws();
     zone_laws();

@@ -1,7 +1,7 @@
 // Documents that are large, deep or wide, within a test's time.
-use reql_datum::{Datum, Fields, Items, Memory, Name, compare};
+use crate::order::are_equal;
+use reql_datum::{Datum, Fields, Items, Memory, Name};
 use std::alloc::Global;
-use std::cmp::Ordering;
 use std::test::Fail;
 
 fn nested(alloc: Global, deep: u32) -> Result<Datum, Memory> {
@@ -81,7 +81,7 @@ fn an_object_of_rising_names_is_made_and_looked_into(rt: HostRuntime) -> Result<
 fn a_document_nests_to_100(rt: HostRuntime) -> Result<(), Fail> {
     let deep = nested(rt.alloc(), 100)?;
     let copy = deep.copy()?;
-    assert!(rt; compare(&deep, &copy) == Ordering::Equal);
+    assert!(rt; are_equal(&deep, &copy));
     assert_eq!(rt; copy.depth(), 100);
     Ok(())
 }

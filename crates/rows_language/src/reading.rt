@@ -1,4 +1,5 @@
 // Bodies as drivers write them, and their refusals.
+use crate::quiet::wants_no_answer;
 use reql_read::{Globals, Query, Unread, read_query};
 use reql_term::{Op, Term};
 use std::alloc::{AllocError, Global};
@@ -293,20 +294,13 @@ fn options_of_a_query_are_read(rt: HostRuntime) -> Result<(), Fail> {
     Ok(())
 }
 
-fn refusal_wants_no_answer(alloc: Global, body: &str) -> bool {
-    match read_query(alloc, body.as_bytes()) {
-        Err(Unread { fault: _, noreply }) => noreply,
-        Ok(_) => false,
-    }
-}
-
 #[test]
 fn a_refusal_tells_whether_no_answer_is_wanted(rt: HostRuntime) -> Result<(), Fail> {
     let alloc = rt.alloc();
-    assert!(rt; refusal_wants_no_answer(alloc, "[1,[1],{\"noreply\":true}]"));
-    assert!(rt; refusal_wants_no_answer(alloc, "[1,1,{\"noreply\":true},7]"));
-    assert!(rt; !refusal_wants_no_answer(alloc, "[1,[1],{\"noreply\":false}]"));
-    assert!(rt; !refusal_wants_no_answer(alloc, "[6,[1],{\"noreply\":true}]"));
+    assert!(rt; wants_no_answer(alloc, b"[1,[1],{\"noreply\":true}]"));
+    assert!(rt; wants_no_answer(alloc, b"[1,1,{\"noreply\":true},7]"));
+    assert!(rt; !wants_no_answer(alloc, b"[1,[1],{\"noreply\":false}]"));
+    assert!(rt; !wants_no_answer(alloc, b"[6,[1],{\"noreply\":true}]"));
     Ok(())
 }
 
