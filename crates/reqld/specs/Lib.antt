@@ -1,6 +1,6 @@
 pub mod Fields
 pub mod Words
-pub mod Query
+pub mod Built
 pub mod Seen
 pub mod Answers
 pub mod Requests

@@ -5,6 +5,8 @@ use Rattle.serde_json.specs.Written.{compact_text}
 use Rattle.reql_datum.specs.Plain.{Plain, null}
 use Rattle.reql_datum.specs.Order.{order}
 use Rattle.reql_datum.specs.Sorted.{find_by}
+use Rattle.reql_read.specs.FaultText.{fault_text, answer_type}
+use Rattle.reql_read.specs.declared.fault.ReadFault.{ReadFault}
 use Rattle.reql_law.specs.Machine.{Table, replay, reply}
 use Rattle.reql_law.specs.declared.command.Cmd.TheVariants as cmds
 use Rattle.reql_law.specs.declared.command.Order.{Order}
@@ -14,8 +16,8 @@ use Rattle.reql_law.specs.declared.command.Reply.{Reply}
 use Rattle.reql_law.specs.declared.command.Said.{Said}
 use Rattle.reql_law.specs.declared.command.Said.TheVariants as said
 use Rattle.reqld.specs.Fields.{key_field}
-use Rattle.reqld.specs.Query.{Asked, NotJson, NotBuilt, Get, Insert, asked}
 use Rattle.reqld.specs.Answers.{refusal, fault, op_failed, answer_plain, summary_object}
+use Rattle.reqld.specs.Built.{Request, Refused, NotBuilt, Get, Insert, request}
 
 -- the command of an INSERT: its values were read at no point, and the one session has number 0
 abbrev pub order_of : List (List ℕ × Plain) → Order
@@ -47,22 +49,26 @@ done place stamp (said.Done s) = answer_plain (summary_object s) (Some (point_at
 abbrev pub wrote : Reply → List ℕ
 wrote r = done r.place r.stamp r.said
 
+-- a body that can't be read is answered by the fault's type and text
+abbrev pub refused : ReadFault → List ℕ
+refused fault = compact_text (refusal (answer_type fault) (fault_text fault))
+
 -- the body of the answer to a request, after the entries of a history
-abbrev pub answer_asked : List ℕ → List Entry → Asked → List ℕ
-answer_asked table h NotJson = compact_text (refusal 16 (codes "Query is not JSON."))
+abbrev pub answer_asked : List ℕ → List Entry → Request → List ℕ
+answer_asked table h (Refused fault) = refused fault
 answer_asked table h NotBuilt = compact_text (refusal 17 (codes "Form is not built yet."))
 answer_asked table h (Get name key) = cond (bytes_eq name table) (got (replay h) key) (missing name)
 answer_asked table h (Insert name doc) = cond (bytes_eq name table) (wrote (reply (replay h) 0 (order_of doc))) (missing name)
 
 -- the history after a request: each INSERT into the table is one more entry
-abbrev pub history_asked : List ℕ → List Entry → Asked → List Entry
-history_asked table h NotJson = h
+abbrev pub history_asked : List ℕ → List Entry → Request → List Entry
+history_asked table h (Refused fault) = h
 history_asked table h NotBuilt = h
 history_asked table h (Get name key) = h
 history_asked table h (Insert name doc) = cond (bytes_eq name table) (h ++ entry_of doc ∷ []) h
 
 abbrev pub answer_to : List ℕ → List Entry → List ℕ → List ℕ
-answer_to table h body = answer_asked table h (asked body)
+answer_to table h body = answer_asked table h (request body)
 
 abbrev pub history_after : List ℕ → List Entry → List ℕ → List Entry
-history_after table h body = history_asked table h (asked body)
+history_after table h body = history_asked table h (request body)

@@ -1,26 +1,11 @@
--- What the code read of a body, beside what the body asks for.
-use Rattle.std.specs.Prelude.{◌≡◌, ℕ, List, Option, Some, None, Result, Ok, Err}
-use Rattle.reql_datum.specs.Plain.{Plain}
+-- A query that is built, as the code has it, beside what a body asks for.
+use Rattle.std.specs.Prelude.{◌≡◌, Option, Some, None}
 use Rattle.reql_datum.specs.View.{plain}
-use Rattle.reql_json.specs.declared.fault.JsonFault.{JsonFault}
-use Rattle.reqld.specs.Query.{Asked, NotJson, NotBuilt, Get, Insert, asked, built}
-use Rattle.reqld.specs.declared.query.Body.{Body}
-use Rattle.reqld.specs.declared.query.Body.TheVariants as bodies
-use Rattle.reqld.specs.declared.query.Query.{Query}
-use Rattle.reqld.specs.declared.query.Query.TheVariants as queries
+use Rattle.reqld.specs.Built.{Request, NotBuilt, Get, Insert}
+use Rattle.reqld.specs.declared.query.BuiltQuery.{BuiltQuery}
+use Rattle.reqld.specs.declared.query.BuiltQuery.TheVariants as queries
 
-abbrev pub Reads : List ℕ → Body → Type 0
-Reads body bodies.NotJson = asked body ≡ NotJson
-Reads body bodies.NoDocument = asked body ≡ NotBuilt
-Reads body (bodies.Document d) = asked body ≡ built (plain d)
-
--- the same of the document that a value stands for
-abbrev pub Holds : Result Plain JsonFault → Body → Type 0
-Holds found bodies.NotJson = ⊥
-Holds found bodies.NoDocument = (fault : JsonFault) × (found ≡ Err fault)
-Holds found (bodies.Document d) = found ≡ Ok (plain d)
-
-abbrev pub Means : Asked → Option Query → Type 0
-Means asked None = asked ≡ NotBuilt
-Means asked (Some (queries.Get table key)) = asked ≡ Get table.now (plain key.now)
-Means asked (Some (queries.Insert table doc)) = asked ≡ Insert table.now doc.now
+abbrev pub Means : Request → Option BuiltQuery → Type 0
+Means request None = request ≡ NotBuilt
+Means request (Some (queries.Get table key)) = request ≡ Get table.now (plain key.now)
+Means request (Some (queries.Insert table doc)) = request ≡ Insert table.now doc

@@ -9,6 +9,7 @@ ghost use Rattle.reqld.specs.Answers.{stamped, atom, refusal, fault, internal, w
 ghost use Rattle.reqld.specs.Answers.{count as count_of};
 ghost use Rattle.reqld.specs.Requests.{missing};
 
+use crate::fields::put;
 use reql_datum::{Datum, Fields, Items, Memory, Name, Whole};
 use reql_json::{ShowFault, text, to_value};
 use reql_law::{Point, Summary};
@@ -121,11 +122,7 @@ fn atom_of(alloc: Global, value: Value, point: Option<Point>) -> Result<Vec<u8>,
 fn set(alloc: Global, fields: &mut Fields, name: &str, value: Datum) -> Result<(), Memory>
     ensures { OnOk result (fields.new ≡ put name.now (plain value) fields.old) }
 {
-    let name = Name::of(alloc, name)?;
-    match fields.put(name, value) {
-        Ok(_) => Ok(()),
-        Err(_) => Err(Memory),
-    }
+    put(fields, Name::of(alloc, name)?, value)
 }
 
 fn set_count(alloc: Global, fields: &mut Fields, name: &str, count: u64) -> Result<(), Memory>

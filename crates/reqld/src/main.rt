@@ -6,6 +6,7 @@
 
 mod answer;
 mod ending;
+mod fields;
 mod greeting;
 mod query;
 mod request;

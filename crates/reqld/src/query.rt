@@ -1,116 +1,89 @@
-// What the body of a request asks for.
-ghost use Rattle.std.specs.Prelude.{◌≡◌, ◌&&◌, Some, option_map, IfOk};
-ghost use Rattle.serde_json.specs.View.{view};
-ghost use Rattle.reql_json.specs.Reading.{document};
-ghost use Rattle.reql_datum.specs.Plain.{items_of, pairs_of};
+// The two queries that are built, among all that a body can ask for.
+ghost use Rattle.std.specs.Prelude.{◌≡◌, ◌&&◌, not, Some, option_map, bytes_eq, nat_eq, IfOk};
 ghost use Rattle.reql_datum.specs.Members.{find};
 ghost use Rattle.reql_datum.specs.View.{plain};
+ghost use Rattle.reql_term.specs.Form.{forms_of, named_of};
+ghost use Rattle.reql_term.specs.View.{form_of};
+ghost use Rattle.reql_read.specs.Query.{usual};
+ghost use Rattle.reql_read.specs.View.{asked};
+ghost use Rattle.reqld.specs.Built.{one_in, two_in, call, table_named, name_in, built, get_of, insert_of, is_built_key, is_built_value, is_built_form, are_built_forms, members_in, is_key_built, value_of, request_of};
 ghost use Rattle.reqld.specs.Fields.{key_field};
-ghost use Rattle.reqld.specs.Query.{one_in, two_in, call, table_named, built, get_of, insert_of, is_built_key, is_built_value, are_built_values, is_key_built, started};
-ghost use Rattle.reqld.specs.Seen.{Holds, Means, Reads};
+ghost use Rattle.reqld.specs.Seen.{Means};
 
+use crate::fields::put;
 use crate::words::is_name;
-use reql_datum::{Datum, Fields, Items, Memory, Name};
-use reql_json::{JsonFault, from_value};
-use serde_json::Value;
+use reql_datum::{Datum, Fields, Memory, Name};
+use reql_read::{Globals, Query};
+use reql_term::{Term, TermFields, Terms};
 use std::alloc::Global;
 
 /// A query that is built.
-#[derive(Clone, Copy)]
-pub enum Query<'a> {
+#[derive(Drop)]
+pub enum BuiltQuery<'a> {
     /// The document with a key of the table of a name.
     Get { table: &'a Name, key: &'a Datum },
     /// The insertion of a document into the table of a name.
-    Insert { table: &'a Name, doc: &'a Fields },
+    Insert { table: &'a Name, doc: Fields },
 }
 
-/// What a body is the text of.
-#[derive(Drop)]
-pub enum Body {
-    /// It is no JSON.
-    NotJson,
-    /// It is JSON that stands for no document.
-    NoDocument,
-    /// The document that its JSON stands for.
-    Document(Datum),
-}
-
-/// Reads the text of a body.
-pub fn read_body(alloc: Global, body: &[u8]) -> Result<Body, Memory>
-    ensures { IfOk result (Reads body.now) }
+fn one_in(terms: &Terms) -> Option<&Term>
+    ensures { option_map (λ t. form_of t.now) result ≡ one_in (forms_of terms.now) }
 {
-    match Value::from_slice(alloc, body) {
-        Err(e) if e.is_memory() => Err(Memory),
-        Err(_) => Ok(Body::NotJson),
-        Ok(value) => document_in(alloc, &value),
-    }
-}
-
-fn document_in(alloc: Global, value: &Value) -> Result<Body, Memory>
-    ensures { IfOk result (Holds (document (view value.now))) }
-{
-    match from_value(alloc, value) {
-        Ok(document) => Ok(Body::Document(document)),
-        Err(fault) => match fault {
-            JsonFault::Memory => Err(Memory),
-            JsonFault::Fraction => Ok(Body::NoDocument),
-            JsonFault::OverRange => Ok(Body::NoDocument),
-            JsonFault::Reserved => Ok(Body::NoDocument),
-        },
-    }
-}
-
-fn one_in(items: &Items) -> Option<&Datum>
-    ensures { option_map (λ v. plain v.now) result ≡ one_in (items_of items.now) }
-{
-    let Some(one) = items.at(0) else {
+    let Some(one) = terms.at(0) else {
         return None;
     };
-    match items.at(1) {
+    match terms.at(1) {
         None => Some(one),
         Some(_) => None,
     }
 }
 
-fn two_in(items: &Items) -> Option<(&Datum, &Datum)>
-    ensures { option_map (λ p. (plain p.0.now, plain p.1.now)) result ≡ two_in (items_of items.now) }
+fn two_in(terms: &Terms) -> Option<(&Term, &Term)>
+    ensures { option_map (λ p. (form_of p.0.now, form_of p.1.now)) result ≡ two_in (forms_of terms.now) }
 {
-    let Some(first) = items.at(0) else {
+    let Some(first) = terms.at(0) else {
         return None;
     };
-    let Some(second) = items.at(1) else {
+    let Some(second) = terms.at(1) else {
         return None;
     };
-    match items.at(2) {
+    match terms.at(2) {
         None => Some((first, second)),
         Some(_) => None,
     }
 }
 
-// The number and the arguments of a term that is written [number, [arguments]].
-fn call(d: &Datum) -> Option<(i64, &Items)>
-    ensures { option_map (λ c. (c.0, items_of c.1.now)) result ≡ call (plain d.now) }
+// The number and the arguments of a term without optional arguments.
+fn call(term: &Term) -> Option<(u32, &Terms)>
+    ensures { option_map (λ c. (c.0, forms_of c.1.now)) result ≡ call (form_of term.now) }
 {
-    let Datum::List(parts) = d else {
+    let Term::Op { op, args, opts } = term else {
         return None;
     };
-    match two_in(parts) {
-        Some((Datum::Num(op), Datum::List(args))) => Some((op.get(), args)),
+    match opts.at(0) {
+        None => Some((op.number(), args)),
+        Some(_) => None,
+    }
+}
+
+// The name that a literal is.
+fn name_in(term: Option<&Term>) -> Option<&Name>
+    ensures { option_map (λ n. n.now) result ≡ name_in (option_map (λ t. form_of t.now) term.entry) }
+{
+    match term {
+        Some(Term::Lit(Datum::Text(name))) if is_name(name.as_str()) => Some(name),
         _ => None,
     }
 }
 
-// The name of a table that is written [15, [name]].
-fn table_named(d: &Datum) -> Option<&Name>
-    ensures { option_map (λ n. n.now) result ≡ table_named (plain d.now) }
+// The name of a table, which is term 15 of a literal name.
+fn table_named(term: &Term) -> Option<&Name>
+    ensures { option_map (λ n. n.now) result ≡ table_named (form_of term.now) }
 {
-    let Some((15, args)) = call(d) else {
+    let Some((15, args)) = call(term) else {
         return None;
     };
-    match one_in(args) {
-        Some(Datum::Text(name)) if is_name(name.as_str()) => Some(name),
-        _ => None,
-    }
+    name_in(one_in(args))
 }
 
 fn is_built_key(d: &Datum) -> bool
@@ -128,13 +101,22 @@ fn is_built_value(d: &Datum) -> bool
     )
 }
 
+fn is_built_form(term: &Term) -> bool
+    ensures { result ≡ is_built_form (form_of term.now) }
+{
+    match term {
+        Term::Lit(d) => is_built_value(d),
+        _ => false,
+    }
+}
+
 #[tactic(auto, using(reql_datum::proofs::Walks::walks))]
-fn are_built_values(fields: &Fields) -> bool
-    ensures { result ≡ are_built_values (pairs_of fields.now) }
+fn are_built_forms(members: &TermFields) -> bool
+    ensures { result ≡ are_built_forms (named_of members.now) }
 {
     let mut place = 0;
-    while let Some((_, value)) = fields.at(place) {
-        if !is_built_value(value) {
+    while let Some((_, term)) = members.at(place) {
+        if !is_built_form(term) {
             return false;
         }
         place += 1;
@@ -142,75 +124,115 @@ fn are_built_values(fields: &Fields) -> bool
     true
 }
 
-// The term of a query that starts, which is written [1, term].
-fn started(d: &Datum) -> Option<&Datum>
-    ensures { option_map (λ t. plain t.now) result ≡ started (plain d.now) }
+fn value_of(term: &Term) -> Result<Datum, Memory>
+    ensures { IfOk result (λ d. plain d ≡ value_of (form_of term.now)) }
 {
-    let Datum::List(parts) = d else {
-        return None;
-    };
-    match two_in(parts) {
-        Some((Datum::Num(kind), term)) if kind.get() == 1 => Some(term),
-        _ => None,
+    match term {
+        Term::Lit(d) => d.copy(),
+        _ => Ok(Datum::Null),
     }
 }
 
-// Whether a document is one that is built: its values are plain, and its primary key is a number or a text.
-fn is_built(doc: &Fields) -> bool
-    ensures { result ≡ (are_built_values (pairs_of doc.now) && is_key_built (find key_field doc.now)) }
+// The document whose members are literals.
+#[tactic(auto, using(reql_datum::proofs::Walks::walks))]
+fn document_of(alloc: Global, members: &TermFields) -> Result<Fields, Memory>
+    ensures { IfOk result (λ doc. doc ≡ members_in (named_of members.now)) }
 {
-    if !are_built_values(doc) {
-        return false;
+    let mut doc = Fields::with_room(alloc, members.len())?;
+    let mut place = 0;
+    while let Some((name, term)) = members.at(place) {
+        let name = name.copy()?;
+        let value = value_of(term)?;
+        put(&mut doc, name, value)?;
+        place += 1;
     }
+    Ok(doc)
+}
+
+fn has_built_key(doc: &Fields) -> bool
+    ensures { result ≡ is_key_built (find key_field doc.now) }
+{
     match doc.get("id") {
         Some(key) => is_built_key(key),
         None => false,
     }
 }
 
-fn get_of<'a>(table: &'a Name, key: &'a Datum) -> Option<Query<'a>>
-    ensures { Means (get_of (Some table.now) (plain key.now)) result }
+fn get_of<'a>(table: &'a Name, key: &'a Term) -> Option<BuiltQuery<'a>>
+    ensures { Means (get_of (Some table.now) (form_of key.now)) result }
 {
+    let Term::Lit(key) = key else {
+        return None;
+    };
     if is_built_key(key) {
-        Some(Query::Get { table, key })
+        Some(BuiltQuery::Get { table, key })
     } else {
         None
     }
 }
 
-#[tactic(auto, using(crate::proofs::Reading::members_in_of))]
-fn insert_of<'a>(table: &'a Name, value: &'a Datum) -> Option<Query<'a>>
-    ensures { Means (insert_of (Some table.now) (plain value.now)) result }
+fn insert_of<'a>(
+    alloc: Global,
+    table: &'a Name,
+    value: &'a Term,
+) -> Result<Option<BuiltQuery<'a>>, Memory>
+    ensures { IfOk result (Means (insert_of (Some table.now) (form_of value.now))) }
 {
-    let Datum::Obj(doc) = value else {
-        return None;
+    let Term::Obj(members) = value else {
+        return Ok(None);
     };
-    if is_built(doc) {
-        Some(Query::Insert { table, doc })
+    if !are_built_forms(members) {
+        return Ok(None);
+    }
+    let doc = document_of(alloc, members)?;
+    if has_built_key(&doc) {
+        Ok(Some(BuiltQuery::Insert { table, doc }))
     } else {
-        None
+        Ok(None)
     }
 }
 
-/// The query that a document of a body is, if it is one of the two that are built: GET, term 16, or INSERT, term 56.
-pub fn query_of(d: &Datum) -> Option<Query<'_>>
-    ensures { Means (built (plain d.now)) result }
+// The query that a term is: GET, term 16, or INSERT, term 56.
+fn built(alloc: Global, term: &Term) -> Result<Option<BuiltQuery<'_>>, Memory>
+    ensures { IfOk result (Means (built (form_of term.now))) }
 {
-    let Some(term) = started(d) else {
-        return None;
-    };
-    let Some((op, args)) = call(term) else {
-        return None;
+    let Some((number, args)) = call(term) else {
+        return Ok(None);
     };
     let Some((first, second)) = two_in(args) else {
-        return None;
+        return Ok(None);
     };
     let Some(table) = table_named(first) else {
-        return None;
+        return Ok(None);
     };
-    match op {
-        16 => get_of(table, second),
-        56 => insert_of(table, second),
-        _ => None,
+    match number {
+        16 => Ok(get_of(table, second)),
+        56 => insert_of(alloc, table, second),
+        _ => Ok(None),
     }
+}
+
+// Whether options are those of a query that has none, its wish for no answer aside.
+fn are_usual(globals: &Globals) -> bool
+    ensures { result ≡ (bytes_eq globals.now.db usual.db && (nat_eq globals.now.array_limit usual.array_limit && nat_eq globals.now.batch usual.batch)) }
+{
+    globals.db.as_str() == "test" && globals.array_limit == 100_000 && globals.batch == 1_000
+}
+
+/// The query that is built, if what a body asks for is one of the two, with the usual options.
+pub fn built_query(alloc: Global, query: &Query) -> Result<Option<BuiltQuery<'_>>, Memory>
+    ensures { IfOk result (Means (request_of (asked query.now))) }
+{
+    let Query::Start {
+        term,
+        globals,
+        noreply,
+    } = query
+    else {
+        return Ok(None);
+    };
+    if *noreply || !are_usual(globals) {
+        return Ok(None);
+    }
+    built(alloc, term)
 }

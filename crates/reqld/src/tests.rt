@@ -75,7 +75,7 @@ fn expect(rt: &impl Abort, first: &First<MemRecord>, status: u8, sent: &[u8], en
 #[test]
 fn sessions_are_answered_to_the_byte(rt: HostRuntime) -> Result<(), Fail> {
     let alloc = rt.alloc();
-    let sessions: [(&[&str], &[&str], usize); 9] = [
+    let sessions: [(&[&str], &[&str], usize); 8] = [
         (&[], &[], 0),
         (&[GET], &[NO_DOCUMENT], 0),
         (&[INSERT, GET], &[INSERTED, GOT], 1),
@@ -86,19 +86,17 @@ fn sessions_are_answered_to_the_byte(rt: HostRuntime) -> Result<(), Fail> {
         (
             &[
                 "[2]",
-                "[1,1]",
-                "[1,[16,[[15,[\"docs\"]],1.5]]]",
+                "[1,9007199254740992]",
+                "[1,[24,[9007199254740992,1]]]",
                 "[1,[56,[[15,[\"docs\"]],{\"n\":5}]]]",
-            ],
-            &[NOT_BUILT, NOT_BUILT, NOT_BUILT, NOT_BUILT],
-            0,
-        ),
-        (
-            &[
                 "[1,[56,[[15,[\"docs\"]],{\"id\":1,\"a\":[2,[]]}]]]",
-                "[1,[16,[[15,[\"docs\"]],1]],{}]",
+                "[1,[16,[[15,[\"docs\"],{\"read_mode\":\"single\"}],1]]]",
+                "[1,[16,[[15,[\"docs\"]],1]],{\"noreply\":true}]",
+                "[1,[16,[[15,[\"docs\"]],1]],{\"array_limit\":5}]",
+                "[1,[16,[[15,[\"docs\"]],1]],{\"max_batch_rows\":5}]",
+                "[1,[16,[[15,[\"docs\"]],1]],{\"db\":[14,[\"other\"]]}]",
             ],
-            &[NOT_BUILT, NOT_BUILT],
+            &[NOT_BUILT; 10],
             0,
         ),
     ];
@@ -108,6 +106,81 @@ fn sessions_are_answered_to_the_byte(rt: HostRuntime) -> Result<(), Fail> {
         let first = served(alloc, link_of(alloc, &[&input])?)?;
         expect(&rt, &first, 0, &output, entries);
     }
+    Ok(())
+}
+
+// The two queries are served however they are spelled, with options that say what is usual.
+#[test]
+fn built_queries_are_served_in_every_spelling(rt: HostRuntime) -> Result<(), Fail> {
+    let alloc = rt.alloc();
+    let requests = [
+        "[1,[56,[[15,[\"docs\"],{}],[3,[],{\"n\":5,\"id\":1}]],{}],{}]",
+        " [ 1 , [ 16, [ [15, [\"d\\u006fcs\"], {}], 1 ], {} ], {\"noreply\":false} ]",
+        "[1,[16,[[15,[\"docs\"]],1]],{\"array_limit\":100000,\"db\":[14,[\"test\"]],\"max_batch_rows\":5000,\"profile\":false,\"time_format\":\"raw\"}]",
+    ];
+    let input = with_frames(alloc, GREETING, &requests)?;
+    let output = with_frames(alloc, b"SUCCESS\0", &[INSERTED, GOT, GOT])?;
+    let first = served(alloc, link_of(alloc, &[&input])?)?;
+    expect(&rt, &first, 0, &output, 1);
+    Ok(())
+}
+
+// A body that can't be read is answered by the first fault in it, also where it wants no answer.
+#[test]
+fn bodies_that_cannot_be_read_are_told_why(rt: HostRuntime) -> Result<(), Fail> {
+    let alloc = rt.alloc();
+    let refusals: [(&str, u8, &str); 13] = [
+        ("{", 16, "Query is not JSON."),
+        ("[1,1e400]", 16, "Query is not JSON."),
+        ("[9]", 16, "Query has a wrong shape."),
+        (
+            "[1,[16,[[15,\"docs\"],1.5]]]",
+            16,
+            "Query has a wrong shape.",
+        ),
+        ("[1,[9999]]", 17, "Unknown term 9999."),
+        ("[1,[1]]", 17, "Term 1 is not supported."),
+        (
+            "[1,[16,[[15,[\"docs\"]]],{\"x\":1}]]",
+            17,
+            "Term 16 does not take 1 arguments.",
+        ),
+        (
+            "[1,[16,[[15,[\"docs\"]],1.5],{\"x\":1}]]",
+            17,
+            "Unrecognized optional argument `x`.",
+        ),
+        (
+            "[1,[16,[[15,[\"docs\"]],1.5]],{\"x\":1}]",
+            17,
+            "Number is not whole.",
+        ),
+        (
+            "[1,9007199254740993]",
+            17,
+            "Number outside the range of whole numbers.",
+        ),
+        (
+            "[1,[56,[[15,[\"docs\"]],{\"$reql_type$\":1,\"id\":1.5}]]]",
+            17,
+            "Reserved name `$reql_type$`.",
+        ),
+        (
+            "[1,1,{\"noreply\":1}]",
+            17,
+            "Unrecognized optional argument `noreply`.",
+        ),
+        ("[1,1.5,{\"noreply\":true}]", 17, "Number is not whole."),
+    ];
+    let mut input = GREETING.to_vec(alloc)?;
+    let mut output = b"SUCCESS\0".to_vec(alloc)?;
+    for (body, kind, why) in refusals {
+        put(&mut input, 5, body)?;
+        let told = format!(in alloc; "{{\"b\":[],\"r\":[\"{why}\"],\"t\":{kind}}}")?;
+        put(&mut output, 5, told.as_str())?;
+    }
+    let first = served(alloc, link_of(alloc, &[&input])?)?;
+    expect(&rt, &first, 0, &output, 0);
     Ok(())
 }
 

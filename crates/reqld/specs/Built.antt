@@ -1,0 +1,125 @@
+-- What a body asks of this server: one of the two queries that are built, none of them, or nothing that can be read.
+use Rattle.std.specs.Prelude.{ℕ, List, [], ◌∷◌, Option, Some, None, Result, Ok, Err, Bool, true, false, ◌&&◌, not, nat_eq, cond}
+use Rattle.std.specs.Str.{bytes_eq}
+use Rattle.reql_datum.specs.Plain.{Plain, boolean, null, number, text}
+use Rattle.reql_datum.specs.Members.{find}
+use Rattle.reql_term.specs.Form.{Form, literal, keyed, operation, Forms, no_forms, form, NamedForms, no_named, named}
+use Rattle.reql_term.specs.Table.{number_of}
+use Rattle.reql_term.specs.declared.op.Op.{Op}
+use Rattle.reql_read.specs.Query.{Asked, start, query_text, usual}
+use Rattle.reql_read.specs.declared.fault.ReadFault.{ReadFault}
+use Rattle.reqld.specs.Fields.{key_field}
+use Rattle.reqld.specs.Words.{is_name}
+
+pub data Request : Type 0 where
+  -- the body can't be read, by this fault
+  Refused : ReadFault → Request
+  -- it is neither of the two queries that are built
+  NotBuilt : Request
+  -- the document with a key of the table of a name
+  Get : List ℕ → Plain → Request
+  -- the insertion of a document into the table of a name
+  Insert : List ℕ → List (List ℕ × Plain) → Request
+
+-- the one term of a list of one, and the two of a list of two
+abbrev pub one_in : Forms → Option Form
+one_in (form f no_forms) = Some f
+one_in fs = None
+
+abbrev pub two_in : Forms → Option (Form × Form)
+two_in (form f (form g no_forms)) = Some (f, g)
+two_in fs = None
+
+-- the number and the arguments of a term without optional arguments
+abbrev pub call_parts : Op → Forms → NamedForms → Option (ℕ × Forms)
+call_parts op fs no_named = Some (number_of op, fs)
+call_parts op fs (named k f ms) = None
+
+abbrev pub call : Form → Option (ℕ × Forms)
+call (operation op fs ms) = call_parts op fs ms
+call f = None
+
+-- the name of a table: term 15 of a literal name
+abbrev pub name_of : Plain → Option (List ℕ)
+name_of (text s) = cond (is_name s) (Some s) None
+name_of v = None
+
+abbrev pub name_in : Option Form → Option (List ℕ)
+name_in (Some (literal v)) = name_of v
+name_in f = None
+
+abbrev pub table_called : Option (ℕ × Forms) → Option (List ℕ)
+table_called None = None
+table_called (Some c) = cond (nat_eq c.0 15) (name_in (one_in c.1)) None
+
+abbrev pub table_named : Form → Option (List ℕ)
+table_named f = table_called (call f)
+
+-- a primary key of a document that is built: a number or a text
+abbrev pub is_built_key : Plain → Bool
+is_built_key (number n) = true
+is_built_key (text s) = true
+is_built_key v = false
+
+abbrev pub is_key_built : Option Plain → Bool
+is_key_built None = false
+is_key_built (Some v) = is_built_key v
+
+-- a value of a document that is built: null, a boolean, a number or a text
+abbrev pub is_built_value : Plain → Bool
+is_built_value null = true
+is_built_value (boolean b) = true
+is_built_value (number n) = true
+is_built_value (text s) = true
+is_built_value v = false
+
+-- a literal of such a value
+abbrev pub is_built_form : Form → Bool
+is_built_form (literal v) = is_built_value v
+is_built_form f = false
+
+abbrev pub are_built_forms : NamedForms → Bool
+are_built_forms no_named = true
+are_built_forms (named k f ms) = is_built_form f && are_built_forms ms
+
+-- the document whose members are literals; another term counts as null
+abbrev pub value_of : Form → Plain
+value_of (literal v) = v
+value_of f = null
+
+abbrev pub members_in : NamedForms → List (List ℕ × Plain)
+members_in no_named = []
+members_in (named k f ms) = (k, value_of f) ∷ members_in ms
+
+-- GET is term 16 and INSERT term 56, each of a table and one argument more
+abbrev pub get_of : Option (List ℕ) → Form → Request
+get_of (Some name) (literal key) = cond (is_built_key key) (Get name key) NotBuilt
+get_of name f = NotBuilt
+
+abbrev pub insert_of : Option (List ℕ) → Form → Request
+insert_of (Some name) (keyed ms) = cond (are_built_forms ms && is_key_built (find key_field (members_in ms))) (Insert name (members_in ms)) NotBuilt
+insert_of name f = NotBuilt
+
+abbrev pub call_of : ℕ → Option (Form × Form) → Request
+call_of n None = NotBuilt
+call_of n (Some args) = cond (nat_eq n 16) (get_of (table_named args.0) args.1) (cond (nat_eq n 56) (insert_of (table_named args.0) args.1) NotBuilt)
+
+abbrev pub called : Option (ℕ × Forms) → Request
+called None = NotBuilt
+called (Some c) = call_of c.0 (two_in c.1)
+
+abbrev pub built : Form → Request
+built f = called (call f)
+
+-- one of the two is asked for where the options of the query are those of one that has none
+abbrev pub request_of : Asked → Request
+request_of (start f s) = cond (bytes_eq s.db usual.db && (nat_eq s.array_limit usual.array_limit && (nat_eq s.batch usual.batch && not s.noreply))) (built f) NotBuilt
+request_of a = NotBuilt
+
+abbrev pub request_read : Result Asked ReadFault → Request
+request_read (Err fault) = Refused fault
+request_read (Ok a) = request_of a
+
+-- what a body asks for
+abbrev pub request : List ℕ → Request
+request body = request_read (query_text body)
