@@ -15,9 +15,12 @@ abbrev pub string_of : List ℕ → json.Data
 string_of s = json.string s
 
 -- the points that an answer names: the catalogue's place, which is 0, and the point of a slot that was looked at
+abbrev pub shown : Point → json.Data
+shown p = json.array (json.item (whole p.slot) (json.item (whole p.place) (json.item (whole p.stamp) json.no_items)))
+
 abbrev pub slots : Option Point → json.Items
 slots None = json.no_items
-slots (Some p) = json.item (json.array (json.item (whole p.slot) (json.item (whole p.place) (json.item (whole p.stamp) json.no_items)))) json.no_items
+slots (Some p) = json.item (shown p) json.no_items
 
 abbrev pub stamped : Option Point → json.Data
 stamped p = json.object (json.member (codes "c") (whole 0) (json.member (codes "t") (json.array (slots p)) json.no_members))

@@ -3,6 +3,7 @@ pub mod Words
 pub mod Built
 pub mod Seen
 pub mod Answers
+pub mod Written
 pub mod Requests
 pub mod Endings
 pub mod Turns

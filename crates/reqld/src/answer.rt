@@ -1,17 +1,16 @@
 // The bodies of answers.
 ghost use Rattle.std.specs.Prelude.{◌≡◌, ◌++◌, IfOk, Some, None, false, OnOk, codes, string_bytes};
-ghost use Rattle.serde_json.specs.Data as json;
 ghost use Rattle.serde_json.specs.View.{view};
-ghost use Rattle.serde_json.specs.Written.{compact_text, has_float};
+ghost use Rattle.serde_json.specs.Written.{compact_text};
 ghost use Rattle.reql_datum.specs.Members.{put};
 ghost use Rattle.reql_datum.specs.View.{plain};
-ghost use Rattle.reqld.specs.Answers.{stamped, atom, refusal, fault, internal, within, answer_plain, summary_object, text_member, list_member, any_keys, put_all};
+ghost use Rattle.reqld.specs.Answers.{stamped, refusal, fault, internal, summary_object, text_member, list_member, any_keys, put_all};
 ghost use Rattle.reqld.specs.Answers.{count as count_of};
 ghost use Rattle.reqld.specs.Requests.{missing};
 
 use crate::fields::put;
 use reql_datum::{Datum, Fields, Items, Memory, Name, Whole};
-use reql_json::{ShowFault, text, to_value};
+use reql_json::text;
 use reql_law::{Point, Summary};
 use serde_json::{Value, json};
 use std::alloc::{AllocError, Global};
@@ -57,13 +56,6 @@ fn fault_value(
     json!(in alloc; {"b": [], "e": code, "r": [why], "s": stamp, "t": 18})
 }
 
-fn atom_value(alloc: Global, value: Value, point: Option<Point>) -> Result<Value, AllocError>
-    ensures { IfOk result (λ v. view v ≡ atom (view value) point) }
-{
-    let stamp = stamped(alloc, point)?;
-    json!(in alloc; {"n": [], "r": [value], "s": stamp, "t": 1})
-}
-
 /// The answer to a request that a client may not make, type 16, or that can't be compiled, type 17.
 pub fn refusal(alloc: Global, kind: u8, why: &str) -> Result<Vec<u8>, Memory>
     ensures { IfOk result (λ b. b.items ≡ compact_text (refusal kind why.now)) }
@@ -82,41 +74,6 @@ pub fn fault(alloc: Global, code: u32, why: &str, point: Option<Point>) -> Resul
         Ok(value) => text(alloc, &value),
         Err(_) => Err(Memory),
     }
-}
-
-/// The answer of one document, type 1, or the fault that it can't be shown or is too long.
-pub fn atom(alloc: Global, document: &Datum, point: Option<Point>) -> Result<Vec<u8>, Memory>
-    ensures { IfOk result (λ b. b.items ≡ answer_plain (plain document.now) point) }
-{
-    match to_value(alloc, document) {
-        Ok(value) => atom_of(alloc, value, point),
-        Err(ShowFault::Memory) => Err(Memory),
-        Err(ShowFault::Unshowable) => fault(
-            alloc,
-            QUERY_LOGIC,
-            "Value cannot be shown or stored.",
-            point,
-        ),
-    }
-}
-
-fn atom_of(alloc: Global, value: Value, point: Option<Point>) -> Result<Vec<u8>, Memory>
-    requires { has_float (view value) ≡ false }
-    ensures { IfOk result (λ b. b.items ≡ within (compact_text (atom (view value) point)) point) }
-{
-    let Ok(value) = atom_value(alloc, value, point) else {
-        return Err(Memory);
-    };
-    let body = text(alloc, &value)?;
-    if body.len() > LONGEST {
-        return fault(
-            alloc,
-            RESOURCE_LIMIT,
-            "Answer over size limit `268435456`.",
-            point,
-        );
-    }
-    Ok(body)
 }
 
 fn set(alloc: Global, fields: &mut Fields, name: &str, value: Datum) -> Result<(), Memory>

@@ -5,6 +5,7 @@
 #![tactic(auto)]
 
 mod answer;
+mod atom;
 mod ending;
 mod fields;
 mod greeting;

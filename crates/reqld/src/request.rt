@@ -8,7 +8,8 @@ ghost use Rattle.reqld.specs.Built.{Request, request_of};
 ghost use Rattle.reqld.specs.Requests.{got, wrote, order_of, entry_of, refused, answer_asked, history_asked, answer_to, history_after};
 ghost use Rattle.reqld.specs.Seen.{Means};
 
-use crate::answer::{atom, missing, refusal, summary_document};
+use crate::answer::{missing, refusal, summary_document};
+use crate::atom::atom;
 use crate::query::{BuiltQuery, built_query};
 use crate::setting::Setting;
 use reql_datum::{Datum, Fields, Memory, Seq};
