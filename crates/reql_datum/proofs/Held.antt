@@ -1,36 +1,22 @@
--- The members that an object holds, beside the map that it is seen as.
-use Rattle.std.proofs.Common.{◌≡◌, ℕ, zero, suc, ◌<◌, List, [], ◌∷◌, length, get_or, set, map, Some, Result, IfOk, IfErr, refl, sym, ap, ◌∙◌, ◌-◌, slice_get, Ordering, Less, Equal, Greater, true}
+-- A list that holds a map: each of its entries stands for a key and a value, and the keys rise.
+use Rattle.std.proofs.Common.{◌≡◌, ℕ, zero, suc, ◌<◌, ◌-◌, List, [], ◌∷◌, length, get_or, set, map, Some, Result, IfOk, IfErr, slice_get, Ordering, Less, Equal, Greater, true, refl, sym, ap, ◌∙◌}
 use Rattle.std.specs.List.{insert, remove}
 use Rattle.std.specs.List.Sorted.{IsSearchInRange, IsBinarySearchResult}
 use Rattle.std.specs.Map.{keys_of}
+use Rattle.std.specs.Cmp.{IsTotalOrder}
 use Rattle.std.specs.Ordering.{is_lt}
 use Rattle.std.proofs.lemmas.List.{get_or-map, map-set}
-use Rattle.reql_datum.specs.Plain.{Plain}
-use Rattle.reql_datum.specs.View.{plain, member}
-use Rattle.reql_datum.specs.Members.{text_order, AreRising, find, put, without, IsHit, IsGap}
-use Rattle.reql_datum.proofs.Members.{searched, find_hit, set_hit, insert_gap, remove_hit}
-use Rattle.reql_datum.proofs.Members as members
-use Rattle.reql_datum.specs.declared.datum.Datum.{Datum}
-use Rattle.reql_datum.specs.declared.datum.Field.{Field}
+use Rattle.reql_datum.specs.Sorted.{AreRisingBy, find_by, put_by, without_by, IsHitBy, IsGapBy}
+use Rattle.reql_datum.proofs.Sorted.{searched, find_hit, set_hit, insert_gap, remove_hit}
+use Rattle.reql_datum.proofs.Sorted as sorted
 
-names_seen : (fs : List Field) → map (λ (f : Field). f.name) fs ≡ keys_of (map member fs)
-names_seen [] = refl
-names_seen (f ∷ fs) = ap (λ t. f.name ∷ t) (names_seen fs)
-
-pub place_found : (fs : List Field) (ms : List (List ℕ × Plain)) (k : List ℕ) (r : Result ℕ ℕ) → map member fs ≡ ms → AreRising (map member fs) → IsSearchInRange r (length fs)
-    → IsBinarySearchResult (λ (f : Field). text_order f.name k) fs r → record { found : IfOk r (IsHit (keys_of ms) k); absent : IfErr r (IsGap (keys_of ms) k) }
-place_found fs ms k r is up lt by =
-    rw (← is, ← names_seen fs) (searched (λ (f : Field). f.name) k fs (rw (names_seen fs) up) r lt by)
-
-pub find_at : (fs : List Field) (ms : List (List ℕ × Plain)) (k : List ℕ) (i : ℕ) (f : Field) → map member fs ≡ ms → IsHit (keys_of ms) k i → i < length fs → f ≡ get_or fs i f
-    → Some (plain f.value) ≡ find k ms
-find_at fs ms k i f is hit lt here =
-    let e = find_hit ms k i (member f) hit in
-    let at : get_or ms i (member f) ≡ member f = rw (← is) (get_or-map member fs i f (member f) lt ∙ ap member (sym here)) in
-    sym (rw at at e)
+pub is_less : (o : Ordering) → true ≡ is_lt o → o ≡ Less
+is_less Less h = refl
+is_less Equal h = cc
+is_less Greater h = cc
 
 module _ {X Y : Type 0} (f : X → Y) where
-  map-insert : (xs : List X) (i : ℕ) (x : X) → map f (insert xs i x) ≡ insert (map f xs) i (f x)
+  pub map-insert : (xs : List X) (i : ℕ) (x : X) → map f (insert xs i x) ≡ insert (map f xs) i (f x)
   map-insert [] zero x = refl
   map-insert [] (suc i) x = refl
   map-insert (y ∷ ys) zero x = refl
@@ -42,27 +28,38 @@ module _ {X Y : Type 0} (f : X → Y) where
   map-remove (y ∷ ys) zero = refl
   map-remove (y ∷ ys) (suc i) = ap (λ t. f y ∷ t) (map-remove ys i)
 
--- what stands after a value is written over, a member comes in, or one goes
-pub held_set : (fs : List Field) (ms : List (List ℕ × Plain)) (k : List ℕ) (i : ℕ) (f : Field) (v : Datum) → map member fs ≡ ms → IsHit (keys_of ms) k i → i < length fs → f ≡ get_or fs i f
-    → map member (set fs i (record { name = f.name; value = v })) ≡ put k (plain v) ms
-held_set fs ms k i f v is hit lt here =
-    let at : get_or ms i (member f) ≡ member f = rw (← is) (get_or-map member fs i f (member f) lt ∙ ap member (sym here)) in
-    let name : (get_or ms i (member f)).0 ≡ f.name = ap (λ (m : List ℕ × Plain). m.0) at in
-    let e : set ms i (f.name, plain v) ≡ put k (plain v) ms = rw name at (set_hit ms k (plain v) i (member f) hit) in
-    map-set member fs i (record { name = f.name; value = v }) ∙ rw is e
+-- what an entry stands for is its pair
+module _ {K : Type 0} (cmp : K → K → Ordering) (total : IsTotalOrder cmp) {R V : Type 0} (pair : R → K × V) where
+  keys_seen : (rs : List R) → map (λ r. (pair r).0) rs ≡ keys_of (map pair rs)
+  keys_seen [] = refl
+  keys_seen (r ∷ rs) = ap (λ t. (pair r).0 ∷ t) (keys_seen rs)
 
-pub held_insert : (fs : List Field) (ms : List (List ℕ × Plain)) (k : List ℕ) (v : Datum) (i : ℕ) → map member fs ≡ ms → IsGap (keys_of ms) k i
-    → map member (insert fs i (record { name = k; value = v })) ≡ put k (plain v) ms
-held_insert fs ms k v i is gap = map-insert member fs i (record { name = k; value = v }) ∙ rw is (insert_gap ms k (plain v) i gap)
+  -- what a search finds
+  pub place_found : (rs : List R) (k : K) (r : Result ℕ ℕ) → AreRisingBy cmp (map pair rs) → IsSearchInRange r (length rs) → IsBinarySearchResult (λ x. cmp (pair x).0 k) rs r
+      → record { found : IfOk r (IsHitBy cmp (keys_of (map pair rs)) k); absent : IfErr r (IsGapBy cmp (keys_of (map pair rs)) k) }
+  place_found rs k r up lt by =
+      rw (← keys_seen rs) (searched cmp total (λ x. (pair x).0) k rs (rw (keys_seen rs) up) r lt by)
 
-pub held_remove : (fs : List Field) (ms : List (List ℕ × Plain)) (k : List ℕ) (i : ℕ) → map member fs ≡ ms → IsHit (keys_of ms) k i → map member (remove fs i) ≡ without k ms
-held_remove fs ms k i is hit = map-remove member fs i ∙ rw is (remove_hit ms k i hit)
+  -- a key above the last one would stand at the end
+  pub gap_last : (rs : List R) (k : K) (x : R) → AreRisingBy cmp (map pair rs) → Some x ≡ slice_get rs (length rs - 1) → cmp (pair x).0 k ≡ Less → IsGapBy cmp (keys_of (map pair rs)) k (length rs)
+  gap_last rs k x up is h = rw (← keys_seen rs) (sorted.gap_last cmp total (λ y. (pair y).0) k rs x (rw (keys_seen rs) up) is h)
 
-pub is_less : (o : Ordering) → true ≡ is_lt o → o ≡ Less
-is_less Less h = refl
-is_less Equal h = cc
-is_less Greater h = cc
+  at_hit : (rs : List R) (i : ℕ) (x : R) → i < length rs → x ≡ get_or rs i x → get_or (map pair rs) i (pair x) ≡ pair x
+  at_hit rs i x lt here = get_or-map pair rs i x (pair x) lt ∙ ap pair (sym here)
 
--- a name above the last one would stand at the end
-pub gap_last : (fs : List Field) (k : List ℕ) (f : Field) → AreRising (map member fs) → Some f ≡ slice_get fs (length fs - 1) → text_order f.name k ≡ Less → IsGap (keys_of (map member fs)) k (length fs)
-gap_last fs k f up is h = rw (← names_seen fs) (members.gap_last (λ (g : Field). g.name) k fs f (rw (names_seen fs) up) is h)
+  pub value_at : (rs : List R) (k : K) (i : ℕ) (x : R) → IsHitBy cmp (keys_of (map pair rs)) k i → i < length rs → x ≡ get_or rs i x → Some (pair x).1 ≡ find_by cmp k (map pair rs)
+  value_at rs k i x hit lt here = sym (find_hit cmp total (map pair rs) k i (pair x) hit ∙ ap (λ (m : K × V). Some m.1) (at_hit rs i x lt here))
+
+  -- what stands after a value is written over, an entry comes in, or one goes
+  pub held_set : (rs : List R) (k : K) (i : ℕ) (x y : R) → IsHitBy cmp (keys_of (map pair rs)) k i → i < length rs → x ≡ get_or rs i x → (pair y).0 ≡ (pair x).0
+      → map pair (set rs i y) ≡ put_by cmp k (pair y).1 (map pair rs)
+  held_set rs k i x y hit lt here same =
+      let name : (get_or (map pair rs) i (pair x)).0 ≡ (pair y).0 = ap (λ (m : K × V). m.0) (at_hit rs i x lt here) ∙ sym same in
+      let e : set (map pair rs) i ((pair y).0, (pair y).1) ≡ put_by cmp k (pair y).1 (map pair rs) = rw name at (set_hit cmp total (map pair rs) k (pair y).1 i (pair x) hit) in
+      map-set pair rs i y ∙ e
+
+  pub held_insert : (rs : List R) (i : ℕ) (y : R) → IsGapBy cmp (keys_of (map pair rs)) (pair y).0 i → map pair (insert rs i y) ≡ put_by cmp (pair y).0 (pair y).1 (map pair rs)
+  held_insert rs i y gap = map-insert pair rs i y ∙ insert_gap cmp total (map pair rs) (pair y).0 (pair y).1 i gap
+
+  pub held_remove : (rs : List R) (k : K) (i : ℕ) → IsHitBy cmp (keys_of (map pair rs)) k i → map pair (remove rs i) ≡ without_by cmp k (map pair rs)
+  held_remove rs k i hit = map-remove pair rs i ∙ remove_hit cmp total (map pair rs) k i hit

@@ -1,5 +1,5 @@
 -- How the plain table keeps its rows the documents of its history's replay.
-use Rattle.std.proofs.Common.{◌≡◌, ℕ, zero, suc, ◌+◌, List, [], ◌∷◌, ◌++◌, map, refl, ap, ◌∙◌, arith, length-append}
+use Rattle.std.proofs.Common.{◌≡◌, ℕ, ◌+◌, List, [], ◌∷◌, ◌++◌, map, refl, ap, ◌∙◌, arith, length-append}
 use Rattle.std.specs.List.{insert}
 use Rattle.std.specs.Map.{keys_of}
 use Rattle.reql_datum.specs.Plain.{Plain}
@@ -7,6 +7,7 @@ use Rattle.reql_datum.specs.Order.{order}
 use Rattle.reql_datum.specs.Sorted.{put_by, IsGapBy}
 use Rattle.reql_datum.specs.View.{plain}
 use Rattle.reql_datum.specs.Total.{order_total}
+use Rattle.reql_datum.proofs.Held.{held_insert}
 use Rattle.reql_datum.proofs.Sorted as sorted
 use Rattle.reql_law.specs.Write.{Inserts, Errs, verdict_of, inserted_by}
 use Rattle.reql_law.specs.Machine.{Table, empty, after, after_cmd, replay_from, replay}
@@ -24,13 +25,6 @@ replay_on t (d ∷ ds) e = replay_on (after t d.by d.order) ds e
 
 pub keeps_none : Keeps [] 0 []
 keeps_none = record { docs = refl; rising = sorted.rising_nil order order_total Plain; place = refl; stamped = refl; few = omega arith }
-
-module _ {X Y : Type 0} (f : X → Y) where
-  map-insert : (xs : List X) (i : ℕ) (x : X) → map f (insert xs i x) ≡ insert (map f xs) i (f x)
-  map-insert [] zero x = refl
-  map-insert [] (suc i) x = refl
-  map-insert (y ∷ ys) zero x = refl
-  map-insert (y ∷ ys) (suc i) x = ap (λ t. f y ∷ t) (map-insert ys i x)
 
 after_error : (t : Table) (c : Cmd) (why : List ℕ) → verdict_of t.docs c ≡ Errs why → after_cmd t c ≡ record { docs = t.docs; place = t.place + 1; stamp = t.stamp + 0 }
 after_error t (cmds.Write w) why h = rw h refl
@@ -53,7 +47,7 @@ pub keeps_insert : (rows : List Row) (stamp : ℕ) (h : List Entry) (e : Entry) 
 keeps_insert rows stamp h e row i kept is gap doc =
     let next = replay_on empty h e ∙ after_insert (replay h) e.order.cmd (plain row.key) is in
     let put : map pair (insert rows i row) ≡ put_by order (plain row.key) (plain row.doc) (replay h).docs =
-    map-insert pair rows i row ∙ rw kept.docs (sorted.insert_gap order order_total (replay h).docs (plain row.key) (plain row.doc) i gap) in
+    held_insert order order_total pair rows i row (rw kept.docs gap) ∙ ap (put_by order (plain row.key) (plain row.doc)) kept.docs in
     record {
       docs = put ∙ rw next (rw doc refl);
       rising = rw (put, ← kept.docs) (sorted.rising_put order order_total (plain row.key) (plain row.doc) (map pair rows) kept.rising);

@@ -1,4 +1,5 @@
-use Rattle.std.proofs.Common.{rules, map, refl}
+use Rattle.std.proofs.Common.{rules}
+use Rattle.std.proofs.lemmas.Cmp.{nat_list_cmp_total}
 use Rattle.std.proofs.lemmas.Fn.{always_returns_same}
 use Rattle.reql_datum.specs.Members.{text_order}
 use Rattle.reql_datum.specs.View.{member}
@@ -10,10 +11,10 @@ pub returns-clause-found : goal.returns-clause-found
 returns-clause-found c =
     let facts = c.binary_search_by.ensures in
     let by = facts.position (λ (f : Field). text_order f.name c.args.name.now) (always_returns_same _ _ _ (λ a r f called. search rules)) in
-    (place_found c.args.held.now (map member c.args.held.now) c.args.name.now c.binary_search_by.result refl c.requires.rising facts.bound by).found
+    (place_found text_order nat_list_cmp_total member c.args.held.now c.args.name.now c.binary_search_by.result c.requires.rising facts.bound by).found
 
 pub returns-clause-absent : goal.returns-clause-absent
 returns-clause-absent c =
     let facts = c.binary_search_by.ensures in
     let by = facts.position (λ (f : Field). text_order f.name c.args.name.now) (always_returns_same _ _ _ (λ a r f called. search rules)) in
-    (place_found c.args.held.now (map member c.args.held.now) c.args.name.now c.binary_search_by.result refl c.requires.rising facts.bound by).absent
+    (place_found text_order nat_list_cmp_total member c.args.held.now c.args.name.now c.binary_search_by.result c.requires.rising facts.bound by).absent
