@@ -6,7 +6,7 @@ use Rattle.reql_outside.specs.Tape.{Tape, Moves}
 use Rattle.reql_outside.proofs.Moving.{moves_on, moves_next, rose_later}
 use Rattle.reql_wire.specs.Greeting.{greeting_bytes, accepted, refusal}
 use Rattle.reql_wire.specs.declared.greeter.GreetFault.TheVariants as faults
-use Rattle.reqld.specs.Greeted.{AreAccepted, EndsEarly, Greets_with, Waits, Hears, Accepting, Refusing}
+use Rattle.reqld.specs.Greeted.{AreAccepted, EndsEarly, GreetsWith, Waits, Hears, Accepting, Refusing}
 use Rattle.reqld.specs.declared.ending.End.{End}
 use Rattle.reqld.specs.declared.ending.End.TheVariants as ends
 use Rattle.reqld.specs.declared.greeting.Heard.TheVariants as heard
@@ -103,7 +103,7 @@ ended_after a b c h k held used turns (ends.TooLong n) w x = absurd x
 ended_after a b c h k held used turns ends.WriteFault w x = absurd x
 ended_after a b c h k held used turns ends.Worn w x = absurd x
 
-pub accepted_after : (a b c d : Tape) (h k held : List ℕ) (used turns : ℕ) (r : Greeted) → used < turns → Waits a b h used → Hears b c h k held heard.Accepted → Accepting c d (turns - used - 1) r → Greets_with a d held turns r
+pub accepted_after : (a b c d : Tape) (h k held : List ℕ) (used turns : ℕ) (r : Greeted) → used < turns → Waits a b h used → Hears b c h k held heard.Accepted → Accepting c d (turns - used - 1) r → GreetsWith a d held turns r
 accepted_after a b c d h k held used turns (greeted.Accepted l) lt w x y = record {
   heard = h ++ x.0;
   idles = w.idles;
@@ -138,7 +138,7 @@ accepted_after a b c d h k held used turns (greeted.Ended (ends.TooLong n)) lt w
 accepted_after a b c d h k held used turns (greeted.Ended ends.ReadFault) lt w x y = absurd y
 accepted_after a b c d h k held used turns (greeted.Ended ends.Memory) lt w x y = absurd y
 
-pub refused_after : (a b c d : Tape) (h k held : List ℕ) (used turns : ℕ) (r : Greeted) → used < turns → Waits a b h used → Hears b c h k held heard.Refused → Refusing c d (turns - used - 1) r → Greets_with a d held turns r
+pub refused_after : (a b c d : Tape) (h k held : List ℕ) (used turns : ℕ) (r : Greeted) → used < turns → Waits a b h used → Hears b c h k held heard.Refused → Refusing c d (turns - used - 1) r → GreetsWith a d held turns r
 refused_after a b c d h k held used turns (greeted.Accepted l) lt w x y = absurd y
 refused_after a b c d h k held used turns (greeted.Ended ends.Refused) lt w x y =
     let m = then_heard a b c h x.0 w.idles w.moves x.1 in

@@ -10,7 +10,7 @@ use Rattle.reql_wire.proofs.Fronts.{short_more, more_no_frame}
 use Rattle.reql_law.specs.declared.command.Entry.{Entry}
 use Rattle.reqld.specs.Greeted.{IsFront, SaysFront, Accepts, EndsEarly}
 use Rattle.reqld.specs.Turns.{SaysOf, Serves, Why}
-use Rattle.reqld.specs.Promise.{longest_request, Short, Turned_away, Unread, Served, Course, When, Talked, Session}
+use Rattle.reqld.specs.Promise.{longest_request, Short, TurnedAway, Unread, Served, Course, When, Talked, Session}
 use Rattle.reqld.specs.declared.ending.End.{End}
 use Rattle.reqld.specs.declared.ending.End.TheVariants as ends
 use Rattle.reqld.specs.Endings.{status_of}
@@ -18,7 +18,7 @@ use Rattle.reqld.proofs.Joined.{says_on, same_moves}
 
 -- a greeting of which a front of the answer was said
 front_course : (table : List ℕ) (end : End) (heard said : List ℕ) → ((out : List ℕ) → IsFront said out → SaysOf end said out) → ((rest : List ℕ) → Unread end rest) → SaysFront heard said
-    → (rest : List ℕ) × (Short heard said [] rest ⊎ (Turned_away end heard said [] ⊎ Served table end heard said [] rest))
+    → (rest : List ℕ) × (Short heard said [] rest ⊎ (TurnedAway end heard said [] ⊎ Served table end heard said [] rest))
 front_course table end heard said says unread (inl x) = (heard, inl (record { short = x.0; silent = x.1; unchanged = refl; held = refl }))
 front_course table end heard said says unread (inr (inl x)) = (
   drop 12 heard,

@@ -11,9 +11,6 @@ use Rattle.reql_law.specs.declared.command.Summary.{Summary}
 abbrev pub whole : ℕ → json.Data
 whole n = json.number (json.unsigned n)
 
-abbrev pub string_of : List ℕ → json.Data
-string_of s = json.string s
-
 -- the points that an answer names: the catalogue's place, which is 0, and the point of a slot that was looked at
 abbrev pub shown : Point → json.Data
 shown p = json.array (json.item (whole p.slot) (json.item (whole p.place) (json.item (whole p.stamp) json.no_items)))

@@ -30,16 +30,16 @@ abbrev pub two_in : Forms → Option (Form × Form)
 two_in (form f (form g no_forms)) = Some (f, g)
 two_in fs = None
 
--- the number and the arguments of a term without optional arguments
-abbrev pub call_parts : Op → Forms → NamedForms → Option (ℕ × Forms)
-call_parts op fs no_named = Some (number_of op, fs)
-call_parts op fs (named k f ms) = None
+-- the number on the wire and the arguments of a term that has no optional argument
+abbrev pub plain_call : Op → Forms → NamedForms → Option (ℕ × Forms)
+plain_call op fs no_named = Some (number_of op, fs)
+plain_call op fs (named k f ms) = None
 
 abbrev pub call : Form → Option (ℕ × Forms)
-call (operation op fs ms) = call_parts op fs ms
+call (operation op fs ms) = plain_call op fs ms
 call f = None
 
--- the name of a table: term 15 of a literal name
+-- a literal text that follows the rule of names
 abbrev pub name_of : Plain → Option (List ℕ)
 name_of (text s) = cond (is_name s) (Some s) None
 name_of v = None
@@ -48,12 +48,13 @@ abbrev pub name_in : Option Form → Option (List ℕ)
 name_in (Some (literal v)) = name_of v
 name_in f = None
 
-abbrev pub table_called : Option (ℕ × Forms) → Option (List ℕ)
-table_called None = None
-table_called (Some c) = cond (nat_eq c.0 15) (name_in (one_in c.1)) None
+-- the name of a table: TABLE, term 15, of a name
+abbrev pub table_of_call : Option (ℕ × Forms) → Option (List ℕ)
+table_of_call None = None
+table_of_call (Some c) = cond (nat_eq c.0 15) (name_in (one_in c.1)) None
 
 abbrev pub table_named : Form → Option (List ℕ)
-table_named f = table_called (call f)
+table_named f = table_of_call (call f)
 
 -- a primary key of a document that is built: a number or a text
 abbrev pub is_built_key : Plain → Bool
@@ -61,9 +62,9 @@ is_built_key (number n) = true
 is_built_key (text s) = true
 is_built_key v = false
 
-abbrev pub is_key_built : Option Plain → Bool
-is_key_built None = false
-is_key_built (Some v) = is_built_key v
+abbrev pub has_built_key : Option Plain → Bool
+has_built_key None = false
+has_built_key (Some v) = is_built_key v
 
 -- a value of a document that is built: null, a boolean, a number or a text
 abbrev pub is_built_value : Plain → Bool
@@ -82,7 +83,8 @@ abbrev pub are_built_forms : NamedForms → Bool
 are_built_forms no_named = true
 are_built_forms (named k f ms) = is_built_form f && are_built_forms ms
 
--- the document whose members are literals; another term counts as null
+-- The document whose members are literals. Whether all are is asked first, so that what another term counts as is
+-- never seen.
 abbrev pub value_of : Form → Plain
 value_of (literal v) = v
 value_of f = null
@@ -97,19 +99,19 @@ get_of (Some name) (literal key) = cond (is_built_key key) (Get name key) NotBui
 get_of name f = NotBuilt
 
 abbrev pub insert_of : Option (List ℕ) → Form → Request
-insert_of (Some name) (keyed ms) = cond (are_built_forms ms && is_key_built (find key_field (members_in ms))) (Insert name (members_in ms)) NotBuilt
+insert_of (Some name) (keyed ms) = cond (are_built_forms ms && has_built_key (find key_field (members_in ms))) (Insert name (members_in ms)) NotBuilt
 insert_of name f = NotBuilt
 
-abbrev pub call_of : ℕ → Option (Form × Form) → Request
-call_of n None = NotBuilt
-call_of n (Some args) = cond (nat_eq n 16) (get_of (table_named args.0) args.1) (cond (nat_eq n 56) (insert_of (table_named args.0) args.1) NotBuilt)
+abbrev pub query_with : ℕ → Option (Form × Form) → Request
+query_with n None = NotBuilt
+query_with n (Some args) = cond (nat_eq n 16) (get_of (table_named args.0) args.1) (cond (nat_eq n 56) (insert_of (table_named args.0) args.1) NotBuilt)
 
-abbrev pub called : Option (ℕ × Forms) → Request
-called None = NotBuilt
-called (Some c) = call_of c.0 (two_in c.1)
+abbrev pub query_of_call : Option (ℕ × Forms) → Request
+query_of_call None = NotBuilt
+query_of_call (Some c) = query_with c.0 (two_in c.1)
 
 abbrev pub built : Form → Request
-built f = called (call f)
+built f = query_of_call (call f)
 
 -- one of the two is asked for where the options of the query are those of one that has none
 abbrev pub request_of : Asked → Request

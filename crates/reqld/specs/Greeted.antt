@@ -57,9 +57,9 @@ pub record EndsEarly (old new : Tape) (turns : ℕ) (end : End) : Type 0 where
   pub why : WhyGreeted end heard said old new
   pub worn : end ≡ ends.Worn → turns ≤ length heard + idles + 1
 
-abbrev pub Greets_with : Tape → Tape → List ℕ → ℕ → Greeted → Type 0
-Greets_with old new held turns (greeted.Accepted left) = Accepts old new held turns left
-Greets_with old new held turns (greeted.Ended end) = EndsEarly old new turns end
+abbrev pub GreetsWith : Tape → Tape → List ℕ → ℕ → Greeted → Type 0
+GreetsWith old new held turns (greeted.Accepted left) = Accepts old new held turns left
+GreetsWith old new held turns (greeted.Ended end) = EndsEarly old new turns end
 
 -- so many turns have passed, and the greeting is not whole
 pub record Waits (old new : Tape) (heard : List ℕ) (turns : ℕ) : Type 0 where

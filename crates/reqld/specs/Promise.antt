@@ -34,7 +34,7 @@ pub record Short (heard said : List ℕ) (history : List Entry) (rest : List ℕ
   pub held : rest ≡ heard
 
 -- another greeting came than the one that is built
-pub record Turned_away (end : End) (heard said : List ℕ) (history : List Entry) : Type 0 where
+pub record TurnedAway (end : End) (heard said : List ℕ) (history : List Entry) : Type 0 where
   pub refused : AreRefused heard
   pub output : SaysOf end said (refusal faults.NotBuilt)
   pub unchanged : history ≡ []
@@ -58,12 +58,12 @@ pub record Served (table : List ℕ) (end : End) (heard said : List ℕ) (histor
   pub unread : Unread end rest
 
 abbrev pub Course : List ℕ → End → List ℕ → List ℕ → List Entry → List ℕ → Type 0
-Course table ends.Refused heard said history rest = Turned_away ends.Refused heard said history
+Course table ends.Refused heard said history rest = TurnedAway ends.Refused heard said history
 Course table (ends.TooLong len) heard said history rest = Served table (ends.TooLong len) heard said history rest
 Course table ends.Closed heard said history rest = Short heard said history rest ⊎ Served table ends.Closed heard said history rest
 Course table (ends.Cut held) heard said history rest = Short heard said history rest ⊎ Served table (ends.Cut held) heard said history rest
 Course table ends.ReadFault heard said history rest = Short heard said history rest ⊎ Served table ends.ReadFault heard said history rest
-Course table end heard said history rest = Short heard said history rest ⊎ (Turned_away end heard said history ⊎ Served table end heard said history rest)
+Course table end heard said history rest = Short heard said history rest ⊎ (TurnedAway end heard said history ⊎ Served table end heard said history rest)
 
 -- when each end comes
 abbrev pub When : End → List ℕ → Tape → Tape → Type 0

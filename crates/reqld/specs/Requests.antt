@@ -49,20 +49,21 @@ done place stamp (said.Done s) = answer_plain (summary_object s) (Some (point_at
 abbrev pub wrote : Reply → List ℕ
 wrote r = done r.place r.stamp r.said
 
--- a body that can't be read is answered by the fault's type and text
+-- A body that can't be read is answered by the fault's type and text. Want of memory is no fault of a body, so what
+-- it would be told here comes nowhere.
 abbrev pub refused : ReadFault → List ℕ
-refused fault = compact_text (refusal (answer_type fault) (fault_text fault))
+refused why = compact_text (refusal (answer_type why) (fault_text why))
 
 -- the body of the answer to a request, after the entries of a history
 abbrev pub answer_asked : List ℕ → List Entry → Request → List ℕ
-answer_asked table h (Refused fault) = refused fault
+answer_asked table h (Refused why) = refused why
 answer_asked table h NotBuilt = compact_text (refusal 17 (codes "Form is not built yet."))
 answer_asked table h (Get name key) = cond (bytes_eq name table) (got (replay h) key) (missing name)
 answer_asked table h (Insert name doc) = cond (bytes_eq name table) (wrote (reply (replay h) 0 (order_of doc))) (missing name)
 
 -- the history after a request: each INSERT into the table is one more entry
 abbrev pub history_asked : List ℕ → List Entry → Request → List Entry
-history_asked table h (Refused fault) = h
+history_asked table h (Refused why) = h
 history_asked table h NotBuilt = h
 history_asked table h (Get name key) = h
 history_asked table h (Insert name doc) = cond (bytes_eq name table) (h ++ entry_of doc ∷ []) h

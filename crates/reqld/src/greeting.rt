@@ -1,6 +1,6 @@
 // A session before its first frame: its greeting.
 ghost use Rattle.std.specs.Prelude.{◌≡◌, ◌<◌, [], length};
-ghost use Rattle.reqld.specs.Greeted.{Accepting, Greets_with, Hears, Refusing};
+ghost use Rattle.reqld.specs.Greeted.{Accepting, GreetsWith, Hears, Refusing};
 
 use crate::ending::End;
 use reql_outside::{Link, Recv, send_all};
@@ -83,7 +83,7 @@ fn refuse<L: Link>(link: &mut L, left: u64) -> Greeted
 pub fn greet<L: Link>(link: &mut L, feeder: &mut Feeder, buf: &mut [u8], turns: u64) -> Greeted
     requires room { 0 < length buf.old }
     requires none { feeder.old.held ≡ [] }
-    ensures greets { Greets_with (L.tape link.old) (L.tape link.new) feeder.new.held turns result }
+    ensures greets { GreetsWith (L.tape link.old) (L.tape link.new) feeder.new.held turns result }
     ensures limit { feeder.new.limit ≡ feeder.old.limit }
 {
     let mut greeter = Greeter::new();

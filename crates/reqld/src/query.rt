@@ -6,7 +6,7 @@ ghost use Rattle.reql_term.specs.Form.{forms_of, named_of};
 ghost use Rattle.reql_term.specs.View.{form_of};
 ghost use Rattle.reql_read.specs.Query.{usual};
 ghost use Rattle.reql_read.specs.View.{asked};
-ghost use Rattle.reqld.specs.Built.{one_in, two_in, call, table_named, name_in, built, get_of, insert_of, is_built_key, is_built_value, is_built_form, are_built_forms, members_in, is_key_built, value_of, request_of};
+ghost use Rattle.reqld.specs.Built.{one_in, two_in, call, table_named, name_in, built, get_of, insert_of, is_built_key, is_built_value, is_built_form, are_built_forms, members_in, has_built_key, value_of, request_of};
 ghost use Rattle.reqld.specs.Fields.{key_field};
 ghost use Rattle.reqld.specs.Seen.{Means};
 
@@ -150,7 +150,7 @@ fn document_of(alloc: Global, members: &TermFields) -> Result<Fields, Memory>
 }
 
 fn has_built_key(doc: &Fields) -> bool
-    ensures { result ≡ is_key_built (find key_field doc.now) }
+    ensures { result ≡ has_built_key (find key_field doc.now) }
 {
     match doc.get("id") {
         Some(key) => is_built_key(key),
