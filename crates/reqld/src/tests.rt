@@ -28,6 +28,51 @@ const NOT_JSON: &str = "{\"b\":[],\"r\":[\"Query is not JSON.\"],\"t\":16}";
 
 const NOT_BUILT: &str = "{\"b\":[],\"r\":[\"Form is not built yet.\"],\"t\":17}";
 
+// Bodies that can't be read, with the type of the answer and the fault that it tells.
+const UNREADABLE: [(&str, u8, &str); 13] = [
+    ("{", 16, "Query is not JSON."),
+    ("[1,1e400]", 16, "Query is not JSON."),
+    ("[9]", 16, "Query has a wrong shape."),
+    (
+        "[1,[16,[[15,\"docs\"],1.5]]]",
+        16,
+        "Query has a wrong shape.",
+    ),
+    ("[1,[9999]]", 17, "Unknown term 9999."),
+    ("[1,[1]]", 17, "Term 1 is not supported."),
+    (
+        "[1,[16,[[15,[\"docs\"]]],{\"x\":1}]]",
+        17,
+        "Term 16 does not take 1 arguments.",
+    ),
+    (
+        "[1,[16,[[15,[\"docs\"]],1.5],{\"x\":1}]]",
+        17,
+        "Unrecognized optional argument `x`.",
+    ),
+    (
+        "[1,[16,[[15,[\"docs\"]],1.5]],{\"x\":1}]",
+        17,
+        "Number is not whole.",
+    ),
+    (
+        "[1,9007199254740993]",
+        17,
+        "Number outside the range of whole numbers.",
+    ),
+    (
+        "[1,[56,[[15,[\"docs\"]],{\"$reql_type$\":1,\"id\":1.5}]]]",
+        17,
+        "Reserved name `$reql_type$`.",
+    ),
+    (
+        "[1,1,{\"noreply\":1}]",
+        17,
+        "Unrecognized optional argument `noreply`.",
+    ),
+    ("[1,1.5,{\"noreply\":true}]", 17, "Number is not whole."),
+];
+
 fn words(alloc: Global, words: &[&str]) -> Result<Vec<String>, Fail> {
     let mut list = Vec::new(alloc);
     for word in words {
@@ -129,52 +174,9 @@ fn built_queries_are_served_in_every_spelling(rt: HostRuntime) -> Result<(), Fai
 #[test]
 fn bodies_that_cannot_be_read_are_told_why(rt: HostRuntime) -> Result<(), Fail> {
     let alloc = rt.alloc();
-    let refusals: [(&str, u8, &str); 13] = [
-        ("{", 16, "Query is not JSON."),
-        ("[1,1e400]", 16, "Query is not JSON."),
-        ("[9]", 16, "Query has a wrong shape."),
-        (
-            "[1,[16,[[15,\"docs\"],1.5]]]",
-            16,
-            "Query has a wrong shape.",
-        ),
-        ("[1,[9999]]", 17, "Unknown term 9999."),
-        ("[1,[1]]", 17, "Term 1 is not supported."),
-        (
-            "[1,[16,[[15,[\"docs\"]]],{\"x\":1}]]",
-            17,
-            "Term 16 does not take 1 arguments.",
-        ),
-        (
-            "[1,[16,[[15,[\"docs\"]],1.5],{\"x\":1}]]",
-            17,
-            "Unrecognized optional argument `x`.",
-        ),
-        (
-            "[1,[16,[[15,[\"docs\"]],1.5]],{\"x\":1}]",
-            17,
-            "Number is not whole.",
-        ),
-        (
-            "[1,9007199254740993]",
-            17,
-            "Number outside the range of whole numbers.",
-        ),
-        (
-            "[1,[56,[[15,[\"docs\"]],{\"$reql_type$\":1,\"id\":1.5}]]]",
-            17,
-            "Reserved name `$reql_type$`.",
-        ),
-        (
-            "[1,1,{\"noreply\":1}]",
-            17,
-            "Unrecognized optional argument `noreply`.",
-        ),
-        ("[1,1.5,{\"noreply\":true}]", 17, "Number is not whole."),
-    ];
     let mut input = GREETING.to_vec(alloc)?;
     let mut output = b"SUCCESS\0".to_vec(alloc)?;
-    for (body, kind, why) in refusals {
+    for (body, kind, why) in UNREADABLE {
         put(&mut input, 5, body)?;
         let told = format!(in alloc; "{{\"b\":[],\"r\":[\"{why}\"],\"t\":{kind}}}")?;
         put(&mut output, 5, told.as_str())?;
