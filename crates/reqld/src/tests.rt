@@ -29,7 +29,7 @@ const NOT_JSON: &str = "{\"b\":[],\"r\":[\"Query is not JSON.\"],\"t\":16}";
 const NOT_BUILT: &str = "{\"b\":[],\"r\":[\"Form is not built yet.\"],\"t\":17}";
 
 // Bodies that can't be read, with the type of the answer and the fault that it tells.
-const UNREADABLE: [(&str, u8, &str); 13] = [
+const UNREADABLE: [(&str, u8, &str); 14] = [
     ("{", 16, "Query is not JSON."),
     ("[1,1e400]", 16, "Query is not JSON."),
     ("[9]", 16, "Query has a wrong shape."),
@@ -70,6 +70,7 @@ const UNREADABLE: [(&str, u8, &str); 13] = [
         17,
         "Unrecognized optional argument `noreply`.",
     ),
+    ("[1,1.5]", 17, "Number is not whole."),
     ("[1,1.5,{\"noreply\":true}]", 17, "Number is not whole."),
 ];
 
