@@ -54,7 +54,8 @@ impl<T> Seq<T> {
     /// The item at a place, from 0. With `rest`, a loop over the places proves itself.
     pub fn at(&self, place: usize) -> Option<&T>
         ensures found { option_map (λ x. x.now) result ≡ slice_get self.now place }
-        ensures rest { MatchOption result (drop place self.now ≡ []) (λ x. drop place self.now ≡ x.now ∷ drop (place + 1) self.now) }
+        ensures rest { MatchOption result (drop place self.now ≡ []) (λ x. drop place self.now
+            ≡ x.now ∷ drop (place + 1) self.now) }
         ensures place_fits { OnSome result (place < 2 ^ 63) }
     {
         self.held.get(place)
