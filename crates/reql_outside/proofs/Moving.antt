@@ -1,7 +1,7 @@
 use Rattle.std.proofs.Common.{◌≡◌, ℕ, ◌+◌, ◌-◌, ◌^◌, ◌<◌, min, zero-add, ◌≤◌, zero, suc, List, [], ◌++◌, Option, Some, None, Bool, refl, sym, ap, ◌∙◌, append_assoc, append-nil, arith, add-zero, subst, length, take, drop, length-drop}
 use Rattle.std.proofs.lemmas.List.{take-append-drop, length-take-le}
 use Rattle.std.proofs.Math.Seq.{take-length, take-append-add}
-use Rattle.reql_outside.specs.Tape.{Tape, grown, counted, Moves, Rose}
+use Rattle.reql_outside.specs.Tape.{Tape, grown, counted, Moves, recv_failed, send_failed}
 
 -- nothing further
 pub still : (bytes : Option (List ℕ)) → bytes ≡ grown bytes []
@@ -27,8 +27,29 @@ moves_on a b c h s h' s' i j o o' p q = record {
   sent = q.sent ∙ ap (λ x. grown x s') p.sent ∙ grown_twice a.sent s s';
   idle = q.idle ∙ ap (λ x. counted x j) p.idle ∙ counted_twice a.idles i j;
   ended = q.ended;
-  in_later = omega arith;
-  out_later = omega arith;
+  faults_in = q.faults_in ∙ p.faults_in;
+  faults_out = q.faults_out ∙ p.faults_out;
+}
+
+-- a fault that comes after a move is a fault before it
+pub recv_failed_first : (a b : Tape) (h s : List ℕ) (i : ℕ) (o : Bool) → Moves a b h s i o → Moves (recv_failed a) (recv_failed b) h s i o
+recv_failed_first a b h s i o p = record {
+  given = p.given;
+  sent = p.sent;
+  idle = p.idle;
+  ended = p.ended;
+  faults_in = ap (λ n. counted n 1) p.faults_in;
+  faults_out = p.faults_out;
+}
+
+pub send_failed_first : (a b : Tape) (h s : List ℕ) (i : ℕ) (o : Bool) → Moves a b h s i o → Moves (send_failed a) (send_failed b) h s i o
+send_failed_first a b h s i o p = record {
+  given = p.given;
+  sent = p.sent;
+  idle = p.idle;
+  ended = p.ended;
+  faults_in = p.faults_in;
+  faults_out = ap (λ n. counted n 1) p.faults_out;
 }
 
 pub moves_next : (a b c : Tape) (h s h' s' : List ℕ) (i j : ℕ) → Moves a b h s i a.over → Moves b c h' s' j b.over → Moves a c (h ++ h') (s ++ s') (i + j) a.over
@@ -51,6 +72,3 @@ sent_more a b c p k n h x y =
 -- nothing more
 pub and_nothing : (a b c : Tape) (h s : List ℕ) (i : ℕ) → Moves a b h s i a.over → Moves b c [] [] 0 b.over → Moves a c h s i a.over
 and_nothing a b c h s i x y = subst (λ t. Moves a c t s i a.over) (append-nil h) (subst (λ t. Moves a c (h ++ []) t i a.over) (append-nil s) (subst (λ j. Moves a c (h ++ []) (s ++ []) j a.over) (add-zero i) (moves_next a b c h s [] [] i 0 x y)))
-
-pub rose_later : (a b c : ℕ) → a ≤ b → Rose b c → Rose a c
-rose_later a b c h r = omega (arith, counted_some a 1 (omega arith), counted_some b 1 (omega arith))

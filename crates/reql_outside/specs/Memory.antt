@@ -12,7 +12,8 @@ use Rattle.reql_outside.specs.declared.link.Sending.TheVariants as sending
 -- of memory, and then the script stays
 abbrev pub PlaysOn : Played → Played → List ℕ → Recv → Type 0
 PlaysOn old new buf (recv.Got n) =
-    (old.left ≡ map Byte (take n buf) ++ new.left) × (new ≡ record old { tape = new.tape; left = new.left })
+    (old.left ≡ map Byte (take n buf) ++ new.left)
+    × (new ≡ record old { tape = new.tape; left = new.left })
 PlaysOn old new buf recv.Idle =
     (old.left ≡ Quiet ∷ new.left) × (new ≡ record old { tape = new.tape; left = new.left })
 PlaysOn old new buf recv.End = (old.left ≡ []) × (new ≡ record old { tape = new.tape })
@@ -26,4 +27,5 @@ Answers old new piece (sending.Sent n) =
     (list_any (λ k. k == old.calls) old.send_fails ≡ false)
     × (n ≡ min (length piece) old.most)
     × (new ≡ record old { tape = new.tape; calls = counted old.calls 1 })
-Answers old new piece sending.Failed = new ≡ record old { tape = new.tape; calls = counted old.calls 1 }
+Answers old new piece sending.Failed =
+    new ≡ record old { tape = new.tape; calls = counted old.calls 1 }

@@ -26,9 +26,22 @@ tape_of r = record {
 
 -- the tape of a link that tells its bytes, before its first call
 abbrev pub fresh : Tape
-fresh = record { given = Some []; sent = Some []; idles = 0; over = false; faults_in = 0; faults_out = 0 }
+fresh = record {
+  given = Some [];
+  sent = Some [];
+  idles = 0;
+  over = false;
+  faults_in = 0;
+  faults_out = 0;
+}
 
 -- a link in memory before its first call
 abbrev pub opening : List LinkStep → List ℕ → ℕ → Played
 opening script fails most_bytes =
-    record { tape = fresh; left = plays_of script; calls = 0; send_fails = fails; most = most_bytes }
+    record {
+      tape = fresh;
+      left = plays_of script;
+      calls = 0;
+      send_fails = fails;
+      most = most_bytes;
+    }

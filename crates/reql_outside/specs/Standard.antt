@@ -1,5 +1,5 @@
-use Rattle.std.specs.Prelude.{◌≡◌, ◌≢◌, ◌⊎◌, ℕ, true, None}
-use Rattle.reql_outside.specs.Tape.{Tape, Rose}
+use Rattle.std.specs.Prelude.{◌≡◌, ◌≢◌, ℕ, true, None}
+use Rattle.reql_outside.specs.Tape.{Tape}
 use Rattle.reql_outside.specs.declared.standard.StdRecord.{StdRecord}
 use Rattle.reql_outside.specs.declared.link.Recv.{Recv}
 use Rattle.reql_outside.specs.declared.link.Recv.TheVariants as recv
@@ -20,7 +20,7 @@ tape_of r = record {
 abbrev pub IsAwake : Tape → Recv → Type 0
 IsAwake old answer = (answer ≢ recv.Idle) × (old.over ≡ true → answer ≡ recv.End)
 
--- a send takes the whole piece, or a fault came
-abbrev pub SendsOut : Tape → Tape → ℕ → Sending → Type 0
-SendsOut old new size (sending.Sent n) = (n ≡ size) ⊎ Rose old.faults_out new.faults_out
-SendsOut old new size sending.Failed = Rose old.faults_out new.faults_out
+-- a send takes the whole piece or fails
+abbrev pub SendsOut : ℕ → Sending → Type 0
+SendsOut size (sending.Sent n) = n ≡ size
+SendsOut size sending.Failed = Unit {0}

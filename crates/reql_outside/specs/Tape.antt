@@ -1,4 +1,4 @@
-use Rattle.std.specs.Prelude.{◌≡◌, ℕ, ◌+◌, ◌-◌, ◌^◌, ◌≤◌, zero, suc, Bool, true, false, List, [], ◌++◌, take, min, Option, Some, None}
+use Rattle.std.specs.Prelude.{◌≡◌, ℕ, ◌+◌, ◌-◌, ◌^◌, ◌<◌, ◌≤◌, zero, suc, Bool, true, false, List, [], ◌++◌, length, take, min, Option, Some, None}
 use Rattle.reql_outside.specs.declared.link.Recv.{Recv}
 use Rattle.reql_outside.specs.declared.link.Recv.TheVariants as recv
 use Rattle.reql_outside.specs.declared.link.Sending.{Sending}
@@ -38,31 +38,34 @@ abbrev pub counted : ℕ → ℕ → ℕ
 counted old zero = old
 counted old (suc n) = min (old + suc n) (2 ^ 64 - 1)
 
--- a count rose, or stands at its end
-abbrev pub Rose : ℕ → ℕ → Type 0
-Rose old new = counted old 1 ≤ new
-
--- from old to new these bytes were heard and said, and recv was idle so often; afterwards it is
--- over or not; counts of faults never fall
+-- from old to new these bytes were heard and said, recv was idle so often, and no call failed;
+-- afterwards it is over or not
 pub record Moves (old new : Tape) (heard said : List ℕ) (idles : ℕ) (over : Bool) : Type 0 where
   pub given : new.given ≡ grown old.given heard
   pub sent : new.sent ≡ grown old.sent said
   pub idle : new.idles ≡ counted old.idles idles
   pub ended : new.over ≡ over
-  pub in_later : old.faults_in ≤ new.faults_in
-  pub out_later : old.faults_out ≤ new.faults_out
+  pub faults_in : new.faults_in ≡ old.faults_in
+  pub faults_out : new.faults_out ≡ old.faults_out
+
+-- a link of which one more recv failed, or one more send
+abbrev pub recv_failed : Tape → Tape
+recv_failed tape = record tape { faults_in = counted tape.faults_in 1 }
+
+abbrev pub send_failed : Tape → Tape
+send_failed tape = record tape { faults_out = counted tape.faults_out 1 }
 
 -- one recv, with the buffer after it
 abbrev pub Receives : Tape → Tape → List ℕ → Recv → Type 0
 Receives old new buf (recv.Got n) = Moves old new (take n buf) [] 0 old.over
 Receives old new buf recv.Idle = Moves old new [] [] 1 old.over
 Receives old new buf recv.End = Moves old new [] [] 0 true
-Receives old new buf recv.Failed = Moves old new [] [] 0 old.over × Rose old.faults_in new.faults_in
+Receives old new buf recv.Failed = Moves (recv_failed old) new [] [] 0 old.over
 
 -- one send of a piece
 abbrev pub Sends : Tape → Tape → List ℕ → Sending → Type 0
 Sends old new piece (sending.Sent n) = Moves old new [] (take n piece) 0 old.over
-Sends old new piece sending.Failed = Moves old new [] [] 0 old.over × Rose old.faults_out new.faults_out
+Sends old new piece sending.Failed = Moves (send_failed old) new [] [] 0 old.over
 
 -- a count of what was taken is at least 1 and at most what there is room for
 abbrev pub RecvFits : Recv → ℕ → Type 0
@@ -75,9 +78,9 @@ abbrev pub SendFits : Sending → ℕ → Type 0
 SendFits (sending.Sent n) room = (1 ≤ n) × (n ≤ room)
 SendFits sending.Failed room = Unit {0}
 
--- the whole piece was said, or at a fault a front of it
+-- the whole piece was said and no send failed, or one failed where something was left to be said
 abbrev pub SendsAll : Tape → Tape → List ℕ → Bool → Type 0
 SendsAll old new piece true = Moves old new [] piece 0 old.over
 SendsAll old new piece false =
-    (front : List ℕ) × (back : List ℕ) × (piece ≡ front ++ back)
-    × Moves old new [] front 0 old.over × Rose old.faults_out new.faults_out
+    (front : List ℕ) × (back : List ℕ) × (piece ≡ front ++ back) × (0 < length back)
+    × Moves (send_failed old) new [] front 0 old.over

@@ -10,7 +10,7 @@ pub enum Recv {
     Idle,
     /// No byte will come any more.
     End,
-    /// An error came, and `faults_in` rose.
+    /// An error came, and `faults_in` rose by one, as with no other answer.
     Failed,
 }
 
@@ -19,11 +19,13 @@ pub enum Recv {
 pub enum Sending {
     /// So many bytes of the piece's front, at least 1, were taken.
     Sent(usize),
-    /// An error came or nothing was taken, and `faults_out` rose.
+    /// An error came or nothing was taken, and `faults_out` rose by one, as with no other answer.
     Failed,
 }
 
 /// A link to one client: bytes come in any pieces, and go out in any pieces.
+///
+/// A count of faults that stands at 2^64 - 1 counts as risen: it stays there.
 pub trait Link {
     /// What is left of a link that is done with.
     type Record;

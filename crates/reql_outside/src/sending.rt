@@ -5,7 +5,8 @@ use crate::{Link, Sending};
 
 /// Sends a whole piece, in as many sends as the link wants. An empty piece takes none.
 ///
-/// True: all of it was said. False: a front of it was, and `faults_out` rose.
+/// True: all of it was said, and no send failed. False: a send failed, the last one, and not all of
+/// the piece was said.
 pub fn send_all<L: Link>(link: &mut L, piece: &[u8]) -> bool
     ensures { SendsAll (L.tape link.old) (L.tape link.new) piece.now result }
 {

@@ -19,7 +19,8 @@ pub struct StdRecord {
 /// A link over standard input and output. It is never idle, holds back nothing that it was sent,
 /// and tells no bytes.
 ///
-/// A `recv` is one read. A `send` writes the whole piece, or up to an error.
+/// A `recv` is one read. A `send` writes the whole piece, or fails; then a front of the piece may
+/// have gone out.
 #[derive(Drop)]
 pub struct StdLink {
     rt: HostRuntime,
@@ -87,13 +88,11 @@ impl Link for StdLink {
         requires { 0 < length piece.now }
         ensures fits { SendFits result (length piece.now) }
         ensures told { Sends self.old self.new piece.now result }
-        ensures whole { SendsOut self.old self.new (length piece.now) result }
+        ensures whole { SendsOut (length piece.now) result }
     {
         let written = write_on(&mut self.rt.stdout(), piece);
         if written < piece.len() {
             self.counts.faults_out = self.counts.faults_out.saturating_add(1);
-        }
-        if written == 0 {
             return Sending::Failed;
         }
         Sending::Sent(written)

@@ -40,7 +40,8 @@ fn write_some<W: Write>(output: &mut W, piece: &[u8]) -> Option<usize>
 /// Writes the whole piece, or a front of it and then an error came: how many bytes were taken.
 pub(crate) fn write_on<W: Write>(output: &mut W, piece: &[u8]) -> usize
     ensures room { result ≤ length piece.now }
-    ensures bytes { Appends (W.contents output.old) (W.contents output.new) (take result piece.now) }
+    ensures bytes { Appends (W.contents output.old) (W.contents output.new)
+        (take result piece.now) }
 {
     let mut written = 0;
     while written < piece.len() {

@@ -51,7 +51,7 @@ impl Write for Stream {
 }
 
 #[test]
-fn a_script_is_played_in_order_and_sends_fail_where_told(rt: HostRuntime) -> Result<(), Fail> {
+fn links_in_memory_play_their_script_and_fail_where_told(rt: HostRuntime) -> Result<(), Fail> {
     let alloc = rt.alloc();
     let script = vec![in alloc;
         LinkStep::Give(b"".to_vec(alloc)?),
@@ -60,9 +60,9 @@ fn a_script_is_played_in_order_and_sends_fail_where_told(rt: HostRuntime) -> Res
         LinkStep::Fail,
         LinkStep::Give(b"f".to_vec(alloc)?),
     ]?;
-    let mut link = MemLink::new(alloc, script, vec![in alloc; 1]?);
+    let mut link = MemLink::slow(alloc, script, vec![in alloc; 1, 8]?, 2);
     let mut buf = [0u8; 3];
-    let expected = [
+    let received = [
         Recv::Got(3),
         Recv::Got(2),
         Recv::Idle,
@@ -71,33 +71,34 @@ fn a_script_is_played_in_order_and_sends_fail_where_told(rt: HostRuntime) -> Res
         Recv::End,
         Recv::End,
     ];
-    for answer in expected {
+    for answer in received {
         assert_eq!(rt; link.recv(&mut buf), answer);
     }
     for answer in [Sending::Sent(2), Sending::Failed, Sending::Sent(2)] {
-        assert_eq!(rt; link.send(b"hi"), answer);
+        assert_eq!(rt; link.send(b"hi there"), answer);
+    }
+    let pieces: [(&[u8], bool); 3] = [(b"", true), (b"abcde", true), (b"wxyz!", false)];
+    for (piece, whole) in pieces {
+        assert_eq!(rt; send_all(&mut link, piece), whole);
     }
     let record = link.finish();
-    assert_eq!(rt; record.given.as_slice(), b"abcdef".as_slice());
-    assert_eq!(rt; record.sent.as_slice(), b"hihi".as_slice());
+    let bytes = (record.given.as_slice(), record.sent.as_slice());
+    let expected: (&[u8], &[u8]) = (b"abcdef", b"hihiabcdewxyz");
+    assert_eq!(rt; bytes, expected);
     assert_eq!(rt;
-        (record.idles, record.faults_in, record.faults_out),
-        (1, 1, 1)
+        (
+            record.idles,
+            record.faults_in,
+            record.faults_out,
+            record.over
+        ),
+        (1, 1, 2, true)
     );
-    assert!(rt; record.over);
-    Ok(())
-}
-
-#[test]
-fn a_slow_link_is_sent_the_whole_piece_or_its_front(rt: HostRuntime) -> Result<(), Fail> {
-    let alloc = rt.alloc();
-    let mut link = MemLink::slow(alloc, vec![in alloc]?, vec![in alloc; 5]?, 2);
-    assert!(rt; send_all(&mut link, b""));
-    assert!(rt; send_all(&mut link, b"abcde"));
-    assert!(rt; !send_all(&mut link, b"wxyz!"));
-    let record = link.finish();
-    assert_eq!(rt; record.sent.as_slice(), b"abcdewxyz".as_slice());
-    assert_eq!(rt; record.faults_out, 1);
+    let mut other = MemLink::new(alloc, vec![in alloc]?, vec![in alloc]?);
+    assert_eq!(rt;
+        (other.send(b"hi there"), other.recv(&mut buf)),
+        (Sending::Sent(8), Recv::End)
+    );
     Ok(())
 }
 
@@ -109,8 +110,11 @@ fn streams_are_tried_again_at_signals_and_stop_at_errors(rt: HostRuntime) -> Res
         taken: Vec::new(alloc),
     };
     let mut buf = [0u8; 4];
-    assert_eq!(rt; read_some(&mut input, &mut buf), Some(2));
-    assert_eq!(rt; read_some(&mut input, &mut buf), None);
+    let reads = (
+        read_some(&mut input, &mut buf),
+        read_some(&mut input, &mut buf),
+    );
+    assert_eq!(rt; reads, (Some(2), None));
     let mut output = Stream {
         steps: vec![in alloc;
             Step::Error,
@@ -121,12 +125,20 @@ fn streams_are_tried_again_at_signals_and_stop_at_errors(rt: HostRuntime) -> Res
         ]?,
         taken: Vec::new(alloc),
     };
-    assert_eq!(rt; write_on(&mut output, b"abcd"), 4);
-    assert_eq!(rt; write_on(&mut output, b"xyz"), 1);
-    assert_eq!(rt; output.taken.as_slice(), b"abcdx".as_slice());
+    let writes = (
+        write_on(&mut output, b"abcd"),
+        write_on(&mut output, b"xyz"),
+    );
+    assert_eq!(rt;
+        (writes, output.taken.as_slice()),
+        ((4, 1), b"abcdx".as_slice())
+    );
     let mut link = StdLink::new(rt);
-    assert_eq!(rt; link.send(b"sent\n"), Sending::Sent(5));
+    let sent = link.send(b"sent\n");
     let record = link.finish();
-    assert_eq!(rt; (record.faults_in, record.faults_out), (0, 0));
+    assert_eq!(rt;
+        (sent, record.faults_in, record.faults_out),
+        (Sending::Sent(5), 0, 0)
+    );
     Ok(())
 }

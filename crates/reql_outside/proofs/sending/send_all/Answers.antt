@@ -1,6 +1,6 @@
-use Rattle.std.proofs.Common.{[], take, drop, sym, arith}
+use Rattle.std.proofs.Common.{[], take, drop, sym, arith, length-drop}
 use Rattle.std.proofs.lemmas.List.{take-append-drop}
-use Rattle.reql_outside.proofs.Moving.{sent_more, and_nothing, rose_later}
+use Rattle.reql_outside.proofs.Moving.{sent_more, and_nothing, send_failed_first}
 use Rattle.reql_outside.proofs.sending.send_all.Goals as goal
 
 pub loop-sent-preserved : goal.loop-sent-preserved
@@ -10,11 +10,10 @@ loop-sent-preserved g c = record {
 }
 
 pub returns-in-Failed : goal.returns-in-Failed
-returns-in-Failed g c =
-    let told = c.in-Failed.ensures.told in (
-      take c.loop-sent.sent c.args.piece.now,
-      drop c.loop-sent.sent c.args.piece.now,
-      sym (take-append-drop c.loop-sent.sent c.args.piece.now),
-      and_nothing _ _ _ [] _ 0 c.loop-sent.invariant.moves told.0,
-      rose_later _ _ _ c.loop-sent.invariant.moves.out_later told.1,
-    )
+returns-in-Failed g c = (
+  take c.loop-sent.sent c.args.piece.now,
+  drop c.loop-sent.sent c.args.piece.now,
+  sym (take-append-drop c.loop-sent.sent c.args.piece.now),
+  omega (arith, length-drop c.loop-sent.sent c.args.piece.now, c.loop-sent-test.true),
+  and_nothing _ _ _ [] _ 0 (send_failed_first _ _ _ _ _ _ c.loop-sent.invariant.moves) c.in-Failed.ensures.told,
+)
