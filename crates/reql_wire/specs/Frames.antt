@@ -1,9 +1,11 @@
+-- Frames: a query token and a body's length in front of a body, numbers little endian (RethinkDB's
+-- guide on writing drivers, serialization).
 use Rattle.std.specs.Prelude.{◌≡◌, ℕ, ◌+◌, ◌<◌, ◌≤◌, ◌^◌, nat_lt, if◌then◌else◌, List, ◌++◌, length, take, drop, get_or}
 use Rattle.std.specs.List.{AllByRecursion, flat_map}
 use Rattle.byteorder.specs.Endian.{little_bytes, little_number}
 use Rattle.reql_wire.specs.declared.frame.Frame.{Frame}
 
--- eight bytes of token and four of the body's length
+-- eight bytes of token and four of the body's length (the same guide)
 unfoldable pub header : ℕ → ℕ → List ℕ
 header token len = little_bytes 8 token ++ little_bytes 4 len
 
@@ -21,7 +23,8 @@ pub record Fits (limit : ℕ) (frame : Frame) : Type 0 where
 
 -- no prefix of these bytes is a spelling of a frame within the limit
 abbrev pub NoFrame : ℕ → List ℕ → Type 0
-NoFrame limit bytes = (frame : Frame) (rest : List ℕ) → Fits limit frame → bytes ≡ spelling frame ++ rest → ⊥
+NoFrame limit bytes =
+    (frame : Frame) (rest : List ℕ) → Fits limit frame → bytes ≡ spelling frame ++ rest → ⊥
 
 -- these bytes are these frames, and then a rest that begins no further one
 pub record Frames (limit : ℕ) (bytes : List ℕ) (list : List Frame) (rest : List ℕ) : Type 0 where
@@ -53,7 +56,9 @@ front limit bytes =
     if nat_lt (length bytes) 12 then More
     else if nat_lt limit (length_of bytes) then TooLong (length_of bytes)
     else if nat_lt (length bytes) (12 + length_of bytes) then More
-    else Whole (record { token = token_of bytes; body = take (length_of bytes) (drop 12 bytes) }) (drop (12 + length_of bytes) bytes)
+    else Whole
+    (record { token = token_of bytes; body = take (length_of bytes) (drop 12 bytes) })
+    (drop (12 + length_of bytes) bytes)
 
 -- numbers that a byte can hold
 abbrev pub IsBytes : List ℕ → Type 0

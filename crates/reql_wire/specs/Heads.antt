@@ -7,7 +7,8 @@ use Rattle.reql_wire.specs.declared.reading.Head.TheVariants as head
 abbrev pub Finds : List ℕ → Head → Front → Type 0
 Finds bytes head.More f = f ≡ More
 Finds bytes (head.Whole token body used) f =
-    (used ≤ length bytes) × (f ≡ Whole (record { token = token; body = body.now }) (drop used bytes))
+    (used ≤ length bytes)
+    × (f ≡ Whole (record { token = token; body = body.now }) (drop used bytes))
 Finds bytes (head.TooLong len) f = f ≡ TooLong len
 
 -- a frame that was found is spelled there, and none where none was found

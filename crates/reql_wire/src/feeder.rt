@@ -35,7 +35,8 @@ impl Model for Feeder {
 }
 
 impl Feeder {
-    /// A feeder that has been given nothing, for bodies of at most `limit` bytes. It takes no memory.
+    /// A feeder that has been given nothing, for bodies of at most `limit` bytes. It takes no
+    /// memory.
     pub fn new(alloc: Global, limit: u32) -> Feeder
         ensures { result ≡ record { limit = limit; held = [] } }
     {
@@ -65,13 +66,12 @@ impl Feeder {
             clear_front(&mut self.bytes, self.start);
             self.start = 0;
         }
-        match self.bytes.extend_from_slice(piece) {
-            Ok(()) => Ok(()),
-            Err(_) => Err(Memory),
-        }
+        self.bytes.extend_from_slice(piece)?;
+        Ok(())
     }
 
-    /// Takes the next frame. None: the bytes that are held begin no whole frame, and more are wanted.
+    /// Takes the next frame. None: the bytes that are held begin no whole frame, and more are
+    /// wanted.
     ///
     /// Too long: the next header announces more than the limit, and each further `take` says so
     /// again. An `Err` and a None change nothing.
@@ -81,14 +81,12 @@ impl Feeder {
         match head_of(self.limit, &self.bytes[self.start..]) {
             Head::More => Ok(None),
             Head::TooLong { len } => Err(WireFault::TooLong { len }),
-            Head::Whole { token, body, used } => match copied(self.alloc, body) {
-                Ok(body) => {
-                    self.start += used;
-                    self.give_back_room();
-                    Ok(Some(Frame { token, body }))
-                }
-                Err(_) => Err(WireFault::Memory),
-            },
+            Head::Whole { token, body, used } => {
+                let body = copied(self.alloc, body)?;
+                self.start += used;
+                self.give_back_room();
+                Ok(Some(Frame { token, body }))
+            }
         }
     }
 

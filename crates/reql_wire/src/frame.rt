@@ -1,4 +1,5 @@
 use reql_memory::Seq;
+use std::alloc::AllocError;
 
 /// A token, and a body that belongs to it.
 #[derive(Drop)]
@@ -16,4 +17,15 @@ pub enum WireFault {
     TooLong { len: u32 },
     /// There was no memory for the body.
     Memory,
+}
+
+impl From<AllocError> for WireFault {
+    ghost use Rattle.std.specs.Prelude.{◌≡◌};
+    ghost use Rattle.reql_wire.specs.declared.frame.WireFault.TheVariants.{Memory};
+
+    ghost from_gives = { λ _ e. e ≡ Memory };
+
+    fn from(_want: AllocError) -> WireFault {
+        WireFault::Memory
+    }
 }

@@ -2,13 +2,14 @@
 //!
 //! A frame is a token of 8 bytes, a body's length of 4, and the body, numbers little endian
 //! (RethinkDB's guide on writing drivers). `specs/Frames.antt` says it of whole byte lists, and the
-//! laws of `laws` tie what is read one frame at a time to that.
+//! laws of `frame_laws` tie what is read one frame at a time to that.
 #![tactic(auto)]
 
 mod feeder;
 mod frame;
+mod frame_laws;
 mod greeter;
-mod laws;
+mod greeting_laws;
 mod reading;
 #[cfg(test)]
 mod tests;
@@ -16,9 +17,8 @@ mod writing;
 
 pub use feeder::Feeder;
 pub use frame::{Frame, WireFault};
+pub use frame_laws::{frames_are_once, front_decides, front_of_spelling, one_reading, spelled};
 pub use greeter::{GreetFault, Greeter, Greeting, accepted_answer};
-pub use laws::{
-    frames_are_once, front_decides, front_of_spelling, greeting_is_cut, one_reading, one_verdict,
-    spelled,
-};
+pub use greeting_laws::{greeting_is_cut, one_verdict};
+pub use reading::HEADER_BYTES;
 pub use writing::{FrameFault, put_frame};

@@ -5,7 +5,7 @@ ghost use Rattle.reql_wire.specs.Heads.{Finds, Spells};
 use byteorder::{ByteOrder, LittleEndian};
 
 /// The bytes of a frame in front of its body.
-pub(crate) const HEADER_BYTES: usize = 12;
+pub const HEADER_BYTES: usize = 12;
 
 /// What stands at the front of some bytes: a whole frame of `used` bytes, or why there is none.
 pub(crate) enum Head<'a> {

@@ -1,4 +1,4 @@
-ghost use Rattle.std.specs.Prelude.{◌≡◌, ◌<◌, ◌++◌, ◌^◌, length, take, OnOk, OnErr};
+ghost use Rattle.std.specs.Prelude.{◌≡◌, ◌≢◌, ◌<◌, ◌≤◌, ◌+◌, ◌++◌, ◌^◌, length, take, IsOk, OnOk, OnErr, Err, vec_len, vec_capacity};
 ghost use Rattle.reql_wire.specs.Frames.{header, spelling};
 ghost use Rattle.reql_wire.specs.Feeding.{PutsFrame};
 
@@ -30,6 +30,8 @@ fn put(out: &mut Vec<u8>, token: u64, len: u32, body: &[u8]) -> Result<(), Alloc
     ensures ok { OnOk result
         (out.new.items ≡ out.old.items ++ spelling (record { token = token; body = body.now })) }
     ensures err { OnErr result (take (length out.old.items) out.new.items ≡ out.old.items) }
+    ensures room { vec_len out.old + 12 + length body.now ≤ vec_capacity out.old → IsOk result }
+    ensures capacity { vec_capacity out.old ≤ vec_capacity out.new }
 {
     let header = header_of(token, len);
     out.extend_from_slice(&header)?;
@@ -39,9 +41,13 @@ fn put(out: &mut Vec<u8>, token: u64, len: u32, body: &[u8]) -> Result<(), Alloc
 
 /// Appends a frame's spelling. An `Err` leaves what was there as it was.
 ///
-/// Too long: exactly where the body has 2^32 bytes or more.
+/// Too long: exactly where the body has 2^32 bytes or more. Memory is never wanted where the frame,
+/// a header of 12 bytes and the body, fits the room that `out` has; this room is never given back.
 pub fn put_frame(out: &mut Vec<u8>, token: u64, body: &[u8]) -> Result<(), FrameFault>
-    ensures { PutsFrame out.old.items out.new.items token body.now result }
+    ensures puts { PutsFrame out.old.items out.new.items token body.now result }
+    ensures room { vec_len out.old + 12 + length body.now ≤ vec_capacity out.old →
+        result ≢ Err FrameFault.Memory }
+    ensures capacity { vec_capacity out.old ≤ vec_capacity out.new }
 {
     match u32::try_from(body.len()) {
         Err(_) => Err(FrameFault::TooLong {

@@ -1,5 +1,5 @@
 use Rattle.reql_wire.proofs.Greetings.{cut_kept, cut_greets}
-use Rattle.reql_wire.proofs.laws.greeting_is_cut.Goals as goal
+use Rattle.reql_wire.proofs.greeting_laws.greeting_is_cut.Goals as goal
 
 pub returns-clause-kept : goal.returns-clause-kept
 returns-clause-kept c = cut_kept

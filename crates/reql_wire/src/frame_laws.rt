@@ -1,14 +1,13 @@
-ghost use Rattle.std.specs.Prelude.{◌≡◌, ◌<◌, ◌^◌, ◌-◌, ◌++◌, ◌↔◌, ◌⊎◌, ℕ, List, take};
+ghost use Rattle.std.specs.Prelude.{◌≡◌, ◌<◌, ◌^◌, ◌-◌, ◌++◌, ◌↔◌, ◌⊎◌, ℕ, List};
 ghost use Rattle.reql_wire.specs.Frames.{Fits, Frames, IsBytes, NoFrame, Over};
 ghost use Rattle.reql_wire.specs.Frames.{More, TooLong, Whole, front, spelling};
-ghost use Rattle.reql_wire.specs.Greeting.{Greets};
 ghost use Rattle.reql_wire.specs.declared.frame.Frame.{Frame};
-ghost use Rattle.reql_wire.specs.declared.greeter.Greeting.{Greeting};
 
 /// A frame that was spelled is read again, whatever follows.
 pub fn front_of_spelling()
     ensures { (limit : ℕ) (frame : Frame) (rest : List ℕ) →
-        limit < 2 ^ 32 → Fits limit frame → front limit (spelling frame ++ rest) ≡ Whole frame rest }
+        limit < 2 ^ 32 → Fits limit frame →
+        front limit (spelling frame ++ rest) ≡ Whole frame rest }
 {}
 
 /// What is read is spelled so.
@@ -42,17 +41,4 @@ pub fn front_decides()
 pub fn frames_are_once()
     ensures { (limit : ℕ) (bytes : List ℕ) (fs gs : List Frame) (a b : List ℕ) →
         limit < 2 ^ 32 → Frames limit bytes fs a → Frames limit bytes gs b → (fs ≡ gs) × (a ≡ b) }
-{}
-
-/// The greeter's 12 bytes are enough: what they and a piece are as a greeting, all bytes are.
-pub fn greeting_is_cut()
-    ensures kept { (bytes piece : List ℕ) →
-        take 12 (take 12 bytes ++ piece) ≡ take 12 (bytes ++ piece) }
-    ensures verdict { (bytes piece : List ℕ) (verdict : Greeting) →
-        Greets (take 12 bytes ++ piece) verdict → Greets (bytes ++ piece) verdict }
-{}
-
-/// Bytes have one verdict as a greeting.
-pub fn one_verdict()
-    ensures { (bytes : List ℕ) (a b : Greeting) → Greets bytes a → Greets bytes b → a ≡ b }
 {}

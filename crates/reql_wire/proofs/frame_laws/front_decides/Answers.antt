@@ -1,5 +1,5 @@
 use Rattle.reql_wire.proofs.Fronts.{more_no_frame, too_long_over, over_too_long, over_no_frame, no_frame_fronts}
-use Rattle.reql_wire.proofs.laws.front_decides.Goals as goal
+use Rattle.reql_wire.proofs.frame_laws.front_decides.Goals as goal
 
 pub returns-clause-more : goal.returns-clause-more
 returns-clause-more c = more_no_frame

@@ -1,5 +1,5 @@
 use Rattle.reql_wire.proofs.Fronts.{front_spelling}
-use Rattle.reql_wire.proofs.laws.front_of_spelling.Goals as goal
+use Rattle.reql_wire.proofs.frame_laws.front_of_spelling.Goals as goal
 
 pub returns : goal.returns
 returns c = front_spelling

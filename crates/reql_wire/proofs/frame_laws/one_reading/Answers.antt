@@ -1,7 +1,7 @@
 use Rattle.std.proofs.Common.{◌≡◌, ◌-◌, ◌^◌, sym, ◌∙◌, ap, arith}
 use Rattle.reql_wire.specs.Frames.{Whole, front}
 use Rattle.reql_wire.proofs.Fronts.{front_spelling}
-use Rattle.reql_wire.proofs.laws.one_reading.Goals as goal
+use Rattle.reql_wire.proofs.frame_laws.one_reading.Goals as goal
 
 pub returns : goal.returns
 returns c = λ f g a b fits gits e.
