@@ -1,14 +1,14 @@
 -- The relation by which documents are ordered is a strict order of them all.
-use Rattle.std.proofs.Common.{◌≡◌, ◌↔◌, ℕ, ℤ, pos, negsuc, ◌<◌, ◌<ℤ◌, ◌⊎◌, inl, inr, true, false, List, [], ◌∷◌, Ordering, Less, Equal, Greater, refl, arith}
+use Rattle.std.proofs.Common.{◌≡◌, ◌↔◌, ℕ, ℤ, pos, negsuc, ◌<◌, ◌<ℤ◌, ◌⊎◌, inl, inr, true, false, List, [], ◌∷◌, Ordering, Less, Equal, Greater, refl, arith, subst, Bool}
 use Rattle.std.specs.Ordering.{nat_cmp, int_cmp, ordering_then, MatchOrdering}
 use Rattle.std.specs.Cmp.Lexicographic.{slice_cmp}
 use Rattle.std.proofs.lemmas.Cmp.{ranked, int_ranked, nat_cmp_total, int_cmp_total, nat_list_cmp_total, tied_itself}
 use Rattle.std.proofs.lemmas.Int.{ints}
 use Rattle.reql_datum.specs.Plain.{Plain, low, array, boolean, null, number, object, binary, time, text, high, Plains, no_items, item, Pairs, no_pairs, pair}
 use Rattle.reql_datum.specs.Zone.{zone_order, zone_less, moment_order, moment_less}
-use Rattle.reql_datum.specs.Order.{less, items_less, pairs_less, text_less, order, items_order, pairs_order}
+use Rattle.reql_datum.specs.Order.{rank, less, less_within, items_less, pairs_less, text_less, order, order_within, items_order, pairs_order}
 use Rattle.reql_datum.proofs.Order.{order_means}
-use Rattle.reql_datum.specs.Total.{order_total}
+use Rattle.reql_datum.specs.Total.{order_total, kind_is, items_in, bool_in, pairs_in, moment_in, bytes_of, number_of}
 
 -- ---- what is below is answered Less
 nat_at : (o : Ordering) (m n : ℕ) → m < n → MatchOrdering o (m < n) (m ≡ n) (n < m) → o ≡ Less
@@ -59,120 +59,36 @@ zone_says (negsuc m) (negsuc n) h = nat_says m n h
 moment_says : (s t : ℤ × ℤ) → moment_less s t → moment_order s t ≡ Less
 moment_says s t h = then_says (int_cmp s.0 t.0) (zone_order s.1 t.1) (s.0 <ℤ t.0) (s.0 ≡ t.0) (zone_less s.1 t.1) (int_says s.0 t.0) (same_int s.0 t.0) (zone_says s.1 t.1) h
 
-mutual
-  pub says : (a b : Plain) → less a b → order a b ≡ Less
-  -- cases
-  says low low h = nat_says 0 0 h
-  says low (array vs') h = nat_says 0 1 h
-  says low (boolean b') h = nat_says 0 2 h
-  says low null h = nat_says 0 3 h
-  says low (number n') h = nat_says 0 4 h
-  says low (object ms') h = nat_says 0 5 h
-  says low (binary s') h = nat_says 0 6 h
-  says low (time t') h = nat_says 0 7 h
-  says low (text s') h = nat_says 0 8 h
-  says low high h = nat_says 0 9 h
-  says (array vs) low h = nat_says 1 0 h
-  says (array vs) (array vs') h = items_say vs vs' h
-  says (array vs) (boolean b') h = nat_says 1 2 h
-  says (array vs) null h = nat_says 1 3 h
-  says (array vs) (number n') h = nat_says 1 4 h
-  says (array vs) (object ms') h = nat_says 1 5 h
-  says (array vs) (binary s') h = nat_says 1 6 h
-  says (array vs) (time t') h = nat_says 1 7 h
-  says (array vs) (text s') h = nat_says 1 8 h
-  says (array vs) high h = nat_says 1 9 h
-  says (boolean b) low h = nat_says 2 0 h
-  says (boolean b) (array vs') h = nat_says 2 1 h
-  says (boolean false) (boolean false) h = cc (h.1)
-  says (boolean false) (boolean true) h = refl
-  says (boolean true) (boolean false) h = cc (h.0)
-  says (boolean true) (boolean true) h = cc (h.0)
-  says (boolean b) null h = nat_says 2 3 h
-  says (boolean b) (number n') h = nat_says 2 4 h
-  says (boolean b) (object ms') h = nat_says 2 5 h
-  says (boolean b) (binary s') h = nat_says 2 6 h
-  says (boolean b) (time t') h = nat_says 2 7 h
-  says (boolean b) (text s') h = nat_says 2 8 h
-  says (boolean b) high h = nat_says 2 9 h
-  says null low h = nat_says 3 0 h
-  says null (array vs') h = nat_says 3 1 h
-  says null (boolean b') h = nat_says 3 2 h
-  says null null h = nat_says 3 3 h
-  says null (number n') h = nat_says 3 4 h
-  says null (object ms') h = nat_says 3 5 h
-  says null (binary s') h = nat_says 3 6 h
-  says null (time t') h = nat_says 3 7 h
-  says null (text s') h = nat_says 3 8 h
-  says null high h = nat_says 3 9 h
-  says (number n) low h = nat_says 4 0 h
-  says (number n) (array vs') h = nat_says 4 1 h
-  says (number n) (boolean b') h = nat_says 4 2 h
-  says (number n) null h = nat_says 4 3 h
-  says (number n) (number n') h = int_says n n' h
-  says (number n) (object ms') h = nat_says 4 5 h
-  says (number n) (binary s') h = nat_says 4 6 h
-  says (number n) (time t') h = nat_says 4 7 h
-  says (number n) (text s') h = nat_says 4 8 h
-  says (number n) high h = nat_says 4 9 h
-  says (object ms) low h = nat_says 5 0 h
-  says (object ms) (array vs') h = nat_says 5 1 h
-  says (object ms) (boolean b') h = nat_says 5 2 h
-  says (object ms) null h = nat_says 5 3 h
-  says (object ms) (number n') h = nat_says 5 4 h
-  says (object ms) (object ms') h = pairs_say ms ms' h
-  says (object ms) (binary s') h = nat_says 5 6 h
-  says (object ms) (time t') h = nat_says 5 7 h
-  says (object ms) (text s') h = nat_says 5 8 h
-  says (object ms) high h = nat_says 5 9 h
-  says (binary s) low h = nat_says 6 0 h
-  says (binary s) (array vs') h = nat_says 6 1 h
-  says (binary s) (boolean b') h = nat_says 6 2 h
-  says (binary s) null h = nat_says 6 3 h
-  says (binary s) (number n') h = nat_says 6 4 h
-  says (binary s) (object ms') h = nat_says 6 5 h
-  says (binary s) (binary s') h = text_says s s' h
-  says (binary s) (time t') h = nat_says 6 7 h
-  says (binary s) (text s') h = nat_says 6 8 h
-  says (binary s) high h = nat_says 6 9 h
-  says (time t) low h = nat_says 7 0 h
-  says (time t) (array vs') h = nat_says 7 1 h
-  says (time t) (boolean b') h = nat_says 7 2 h
-  says (time t) null h = nat_says 7 3 h
-  says (time t) (number n') h = nat_says 7 4 h
-  says (time t) (object ms') h = nat_says 7 5 h
-  says (time t) (binary s') h = nat_says 7 6 h
-  says (time t) (time t') h = moment_says t t' h
-  says (time t) (text s') h = nat_says 7 8 h
-  says (time t) high h = nat_says 7 9 h
-  says (text s) low h = nat_says 8 0 h
-  says (text s) (array vs') h = nat_says 8 1 h
-  says (text s) (boolean b') h = nat_says 8 2 h
-  says (text s) null h = nat_says 8 3 h
-  says (text s) (number n') h = nat_says 8 4 h
-  says (text s) (object ms') h = nat_says 8 5 h
-  says (text s) (binary s') h = nat_says 8 6 h
-  says (text s) (time t') h = nat_says 8 7 h
-  says (text s) (text s') h = text_says s s' h
-  says (text s) high h = nat_says 8 9 h
-  says high low h = nat_says 9 0 h
-  says high (array vs') h = nat_says 9 1 h
-  says high (boolean b') h = nat_says 9 2 h
-  says high null h = nat_says 9 3 h
-  says high (number n') h = nat_says 9 4 h
-  says high (object ms') h = nat_says 9 5 h
-  says high (binary s') h = nat_says 9 6 h
-  says high (time t') h = nat_says 9 7 h
-  says high (text s') h = nat_says 9 8 h
-  says high high h = nat_says 9 9 h
+abbrev SaysWithin : Plain → Plain → Type 0
+SaysWithin a b = less_within a b → order_within a b ≡ Less
 
-  -- end of cases
+bools_say : (a b : Bool) → SaysWithin (boolean a) (boolean b)
+bools_say false false h = cc (h.1)
+bools_say false true h = refl
+bools_say true b h = cc (h.0)
+
+says_by : (a b : Plain) → (rank a ≡ rank b → SaysWithin a b) → less a b → order a b ≡ Less
+says_by a b within (inl h) = rw (nat_says (rank a) (rank b) h)
+says_by a b within (inr (e, h)) = rw (same_nat (rank a) (rank b) e) (within e h)
+
+mutual
+  within_says : (a b : Plain) → rank a ≡ rank b → SaysWithin a b
+  within_says low b e = subst (SaysWithin low) (kind_is 0 b e) (λ h. absurd h)
+  within_says (array us) b e = subst (SaysWithin (array us)) (kind_is 1 b e) (items_say us (items_in b))
+  within_says (boolean c) b e = subst (SaysWithin (boolean c)) (kind_is 2 b e) (bools_say c (bool_in b))
+  within_says null b e = subst (SaysWithin null) (kind_is 3 b e) (λ h. absurd h)
+  within_says (number m) b e = subst (SaysWithin (number m)) (kind_is 4 b e) (int_says m (number_of b))
+  within_says (object ls) b e = subst (SaysWithin (object ls)) (kind_is 5 b e) (pairs_say ls (pairs_in b))
+  within_says (binary s) b e = subst (SaysWithin (binary s)) (kind_is 6 b e) (text_says s (bytes_of b))
+  within_says (time t) b e = subst (SaysWithin (time t)) (kind_is 7 b e) (moment_says t (moment_in b))
+  within_says (text s) b e = subst (SaysWithin (text s)) (kind_is 8 b e) (text_says s (bytes_of b))
+  within_says high b e = subst (SaysWithin high) (kind_is 9 b e) (λ h. absurd h)
 
   items_say : (us vs : Plains) → items_less us vs → items_order us vs ≡ Less
   items_say no_items no_items h = absurd h
   items_say no_items (item v vs) h = refl
   items_say (item u us) no_items h = absurd h
-  items_say (item u us) (item v vs) h = then_says (order u v) (items_order us vs) (less u v) (u ≡ v) (items_less us vs) (says u v) (same_plain u v) (items_say us vs) h
+  items_say (item u us) (item v vs) h = then_says (order u v) (items_order us vs) (less u v) (u ≡ v) (items_less us vs) (says_by u v (within_says u v)) (same_plain u v) (items_say us vs) h
 
   pairs_say : (ls ms : Pairs) → pairs_less ls ms → pairs_order ls ms ≡ Less
   pairs_say no_pairs no_pairs h = absurd h
@@ -180,7 +96,10 @@ mutual
   pairs_say (pair j u ls) no_pairs h = absurd h
   pairs_say (pair j u ls) (pair k v ms) h =
       then_says (slice_cmp nat_cmp j k) (ordering_then (order u v) (pairs_order ls ms)) (text_less j k) (j ≡ k) (less u v ⊎ ((u ≡ v) × pairs_less ls ms)) (text_says j k) (same_text j k)
-      (then_says (order u v) (pairs_order ls ms) (less u v) (u ≡ v) (pairs_less ls ms) (says u v) (same_plain u v) (pairs_say ls ms)) h
+      (then_says (order u v) (pairs_order ls ms) (less u v) (u ≡ v) (pairs_less ls ms) (says_by u v (within_says u v)) (same_plain u v) (pairs_say ls ms)) h
+
+says : (a b : Plain) → less a b → order a b ≡ Less
+says a b = says_by a b (within_says a b)
 
 -- ---- so the laws of the answer are those of the relation
 below_at : (a b : Plain) (o : Ordering) → o ≡ Less → MatchOrdering o (less a b) (a ≡ b) (less b a) → less a b

@@ -1,11 +1,12 @@
 -- The order of plain values is the relation, and it is total.
-use Rattle.std.proofs.Common.{◌≡◌, ℕ, ℤ, pos, negsuc, ◌<◌, ◌<ℤ◌, ◌⊎◌, inl, inr, true, false, List, [], ◌∷◌, Ordering, Less, Equal, Greater, refl, sym, ap, lit<}
+use Rattle.std.proofs.Common.{◌≡◌, ℕ, ℤ, pos, negsuc, ◌<◌, ◌<ℤ◌, ◌⊎◌, inl, inr, true, false, List, [], ◌∷◌, Ordering, Less, Equal, Greater, refl, sym, ap, subst, Bool}
 use Rattle.std.specs.Ordering.{nat_cmp, int_cmp, ordering_then, MatchOrdering}
 use Rattle.std.specs.Cmp.Lexicographic.{slice_cmp}
 use Rattle.std.proofs.lemmas.Cmp.{ranked, int_ranked}
 use Rattle.reql_datum.specs.Plain.{Plain, low, array, boolean, null, number, object, binary, time, text, high, Plains, no_items, item, Pairs, no_pairs, pair}
 use Rattle.reql_datum.specs.Zone.{zone_order, zone_less, moment_order, moment_less}
-use Rattle.reql_datum.specs.Order.{less, items_less, pairs_less, text_less, order, items_order, pairs_order}
+use Rattle.reql_datum.specs.Order.{rank, less, less_within, items_less, pairs_less, text_less, order, order_within, items_order, pairs_order}
+use Rattle.reql_datum.specs.Total.{kind_is, items_in, bool_in, pairs_in, moment_in, bytes_of, number_of}
 
 -- two answers in a row, and what they say
 then_means : (o p : Ordering) (L E G L' E' G' B F : Type 0) → MatchOrdering o L E G → MatchOrdering p L' E' G' → (E → E' → B) → (E → F) → MatchOrdering (ordering_then o p) (L ⊎ (E × L')) B (G ⊎ (F × G'))
@@ -42,114 +43,52 @@ moment_means s t =
     then_means (int_cmp s.0 t.0) (zone_order s.1 t.1) (s.0 <ℤ t.0) (s.0 ≡ t.0) (t.0 <ℤ s.0) (zone_less s.1 t.1) (s.1 ≡ t.1) (zone_less t.1 s.1) (s ≡ t) (t.0 ≡ s.0)
     (int_ranked s.0 t.0 _ refl) (zone_means s.1 t.1) (λ e f i. (e i, f i)) sym
 
-mutual
-  pub order_means : (a b : Plain) → MatchOrdering (order a b) (less a b) (a ≡ b) (less b a)
-  -- cases
-  order_means low low = refl
-  order_means low (array vs') = lit< tt
-  order_means low (boolean b') = lit< tt
-  order_means low null = lit< tt
-  order_means low (number n') = lit< tt
-  order_means low (object ms') = lit< tt
-  order_means low (binary s') = lit< tt
-  order_means low (time t') = lit< tt
-  order_means low (text s') = lit< tt
-  order_means low high = lit< tt
-  order_means (array vs) low = lit< tt
-  order_means (array vs) (array vs') = same_means (items_order vs vs') (items_less vs vs') (vs ≡ vs') (items_less vs' vs) (array vs ≡ array vs') (ap array) (items_means vs vs')
-  order_means (array vs) (boolean b') = lit< tt
-  order_means (array vs) null = lit< tt
-  order_means (array vs) (number n') = lit< tt
-  order_means (array vs) (object ms') = lit< tt
-  order_means (array vs) (binary s') = lit< tt
-  order_means (array vs) (time t') = lit< tt
-  order_means (array vs) (text s') = lit< tt
-  order_means (array vs) high = lit< tt
-  order_means (boolean b) low = lit< tt
-  order_means (boolean b) (array vs') = lit< tt
-  order_means (boolean false) (boolean false) = refl
-  order_means (boolean false) (boolean true) = (refl, refl)
-  order_means (boolean true) (boolean false) = (refl, refl)
-  order_means (boolean true) (boolean true) = refl
-  order_means (boolean b) null = lit< tt
-  order_means (boolean b) (number n') = lit< tt
-  order_means (boolean b) (object ms') = lit< tt
-  order_means (boolean b) (binary s') = lit< tt
-  order_means (boolean b) (time t') = lit< tt
-  order_means (boolean b) (text s') = lit< tt
-  order_means (boolean b) high = lit< tt
-  order_means null low = lit< tt
-  order_means null (array vs') = lit< tt
-  order_means null (boolean b') = lit< tt
-  order_means null null = refl
-  order_means null (number n') = lit< tt
-  order_means null (object ms') = lit< tt
-  order_means null (binary s') = lit< tt
-  order_means null (time t') = lit< tt
-  order_means null (text s') = lit< tt
-  order_means null high = lit< tt
-  order_means (number n) low = lit< tt
-  order_means (number n) (array vs') = lit< tt
-  order_means (number n) (boolean b') = lit< tt
-  order_means (number n) null = lit< tt
-  order_means (number n) (number n') = same_means (int_cmp n n') (n <ℤ n') (n ≡ n') (n' <ℤ n) (number n ≡ number n') (ap number) (int_ranked n n' _ refl)
-  order_means (number n) (object ms') = lit< tt
-  order_means (number n) (binary s') = lit< tt
-  order_means (number n) (time t') = lit< tt
-  order_means (number n) (text s') = lit< tt
-  order_means (number n) high = lit< tt
-  order_means (object ms) low = lit< tt
-  order_means (object ms) (array vs') = lit< tt
-  order_means (object ms) (boolean b') = lit< tt
-  order_means (object ms) null = lit< tt
-  order_means (object ms) (number n') = lit< tt
-  order_means (object ms) (object ms') = same_means (pairs_order ms ms') (pairs_less ms ms') (ms ≡ ms') (pairs_less ms' ms) (object ms ≡ object ms') (ap object) (pairs_means ms ms')
-  order_means (object ms) (binary s') = lit< tt
-  order_means (object ms) (time t') = lit< tt
-  order_means (object ms) (text s') = lit< tt
-  order_means (object ms) high = lit< tt
-  order_means (binary s) low = lit< tt
-  order_means (binary s) (array vs') = lit< tt
-  order_means (binary s) (boolean b') = lit< tt
-  order_means (binary s) null = lit< tt
-  order_means (binary s) (number n') = lit< tt
-  order_means (binary s) (object ms') = lit< tt
-  order_means (binary s) (binary s') = same_means (slice_cmp nat_cmp s s') (text_less s s') (s ≡ s') (text_less s' s) (binary s ≡ binary s') (ap binary) (text_means s s')
-  order_means (binary s) (time t') = lit< tt
-  order_means (binary s) (text s') = lit< tt
-  order_means (binary s) high = lit< tt
-  order_means (time t) low = lit< tt
-  order_means (time t) (array vs') = lit< tt
-  order_means (time t) (boolean b') = lit< tt
-  order_means (time t) null = lit< tt
-  order_means (time t) (number n') = lit< tt
-  order_means (time t) (object ms') = lit< tt
-  order_means (time t) (binary s') = lit< tt
-  order_means (time t) (time t') = same_means (moment_order t t') (moment_less t t') (t ≡ t') (moment_less t' t) (time t ≡ time t') (ap time) (moment_means t t')
-  order_means (time t) (text s') = lit< tt
-  order_means (time t) high = lit< tt
-  order_means (text s) low = lit< tt
-  order_means (text s) (array vs') = lit< tt
-  order_means (text s) (boolean b') = lit< tt
-  order_means (text s) null = lit< tt
-  order_means (text s) (number n') = lit< tt
-  order_means (text s) (object ms') = lit< tt
-  order_means (text s) (binary s') = lit< tt
-  order_means (text s) (time t') = lit< tt
-  order_means (text s) (text s') = same_means (slice_cmp nat_cmp s s') (text_less s s') (s ≡ s') (text_less s' s) (text s ≡ text s') (ap text) (text_means s s')
-  order_means (text s) high = lit< tt
-  order_means high low = lit< tt
-  order_means high (array vs') = lit< tt
-  order_means high (boolean b') = lit< tt
-  order_means high null = lit< tt
-  order_means high (number n') = lit< tt
-  order_means high (object ms') = lit< tt
-  order_means high (binary s') = lit< tt
-  order_means high (time t') = lit< tt
-  order_means high (text s') = lit< tt
-  order_means high high = refl
+-- an answer, and a second one that means something where the first is Equal
+then_means_at : (o p : Ordering) (L E G L' B G' F : Type 0) → MatchOrdering o L E G → (E → MatchOrdering p L' B G') → (E → F) → MatchOrdering (ordering_then o p) (L ⊎ (E × L')) B (G ⊎ (F × G'))
+then_means_at Less p L E G L' B G' F h k flip = inl h
+then_means_at Equal Less L E G L' B G' F h k flip = inr (h, k h)
+then_means_at Equal Equal L E G L' B G' F h k flip = k h
+then_means_at Equal Greater L E G L' B G' F h k flip = inr (flip h, k h)
+then_means_at Greater p L E G L' B G' F h k flip = inl h
 
-  -- end of cases
+abbrev MeansWithin : Plain → Plain → Type 0
+MeansWithin a b = MatchOrdering (order_within a b) (less_within a b) (a ≡ b) (less_within b a)
+
+bool_means : (a b : Bool) → MeansWithin (boolean a) (boolean b)
+bool_means false false = refl
+bool_means false true = (refl, refl)
+bool_means true false = (refl, refl)
+bool_means true true = refl
+
+means_by : (a b : Plain) → (rank a ≡ rank b → MeansWithin a b) → MatchOrdering (order a b) (less a b) (a ≡ b) (less b a)
+means_by a b within =
+    then_means_at (nat_cmp (rank a) (rank b)) (order_within a b) (rank a < rank b) (rank a ≡ rank b) (rank b < rank a) (less_within a b) (a ≡ b) (less_within b a) (rank b ≡ rank a)
+    (ranked (rank a) (rank b) _ refl) within sym
+
+mutual
+  within_means : (a b : Plain) → rank a ≡ rank b → MeansWithin a b
+  within_means low b e = subst (MeansWithin low) (kind_is 0 b e) refl
+  within_means (array us) b e =
+      let vs = items_in b in
+      subst (MeansWithin (array us)) (kind_is 1 b e) (same_means (items_order us vs) (items_less us vs) (us ≡ vs) (items_less vs us) (array us ≡ array vs) (ap array) (items_means us vs))
+  within_means (boolean c) b e = subst (MeansWithin (boolean c)) (kind_is 2 b e) (bool_means c (bool_in b))
+  within_means null b e = subst (MeansWithin null) (kind_is 3 b e) refl
+  within_means (number m) b e =
+      let n = number_of b in
+      subst (MeansWithin (number m)) (kind_is 4 b e) (same_means (int_cmp m n) (m <ℤ n) (m ≡ n) (n <ℤ m) (number m ≡ number n) (ap number) (int_ranked m n _ refl))
+  within_means (object ls) b e =
+      let ms = pairs_in b in
+      subst (MeansWithin (object ls)) (kind_is 5 b e) (same_means (pairs_order ls ms) (pairs_less ls ms) (ls ≡ ms) (pairs_less ms ls) (object ls ≡ object ms) (ap object) (pairs_means ls ms))
+  within_means (binary s) b e =
+      let t = bytes_of b in
+      subst (MeansWithin (binary s)) (kind_is 6 b e) (same_means (slice_cmp nat_cmp s t) (text_less s t) (s ≡ t) (text_less t s) (binary s ≡ binary t) (ap binary) (text_means s t))
+  within_means (time s) b e =
+      let t = moment_in b in
+      subst (MeansWithin (time s)) (kind_is 7 b e) (same_means (moment_order s t) (moment_less s t) (s ≡ t) (moment_less t s) (time s ≡ time t) (ap time) (moment_means s t))
+  within_means (text s) b e =
+      let t = bytes_of b in
+      subst (MeansWithin (text s)) (kind_is 8 b e) (same_means (slice_cmp nat_cmp s t) (text_less s t) (s ≡ t) (text_less t s) (text s ≡ text t) (ap text) (text_means s t))
+  within_means high b e = subst (MeansWithin high) (kind_is 9 b e) refl
 
   items_means : (us vs : Plains) → MatchOrdering (items_order us vs) (items_less us vs) (us ≡ vs) (items_less vs us)
   items_means no_items no_items = refl
@@ -157,7 +96,7 @@ mutual
   items_means (item u us) no_items = tt
   items_means (item u us) (item v vs) =
       then_means (order u v) (items_order us vs) (less u v) (u ≡ v) (less v u) (items_less us vs) (us ≡ vs) (items_less vs us) (item u us ≡ item v vs) (v ≡ u)
-      (order_means u v) (items_means us vs) (λ e f i. item (e i) (f i)) sym
+      (means_by u v (within_means u v)) (items_means us vs) (λ e f i. item (e i) (f i)) sym
 
   pairs_means : (ls ms : Pairs) → MatchOrdering (pairs_order ls ms) (pairs_less ls ms) (ls ≡ ms) (pairs_less ms ls)
   pairs_means no_pairs no_pairs = refl
@@ -168,8 +107,11 @@ mutual
       (less u v ⊎ ((u ≡ v) × pairs_less ls ms)) ((u ≡ v) × (ls ≡ ms)) (less v u ⊎ ((v ≡ u) × pairs_less ms ls)) (pair j u ls ≡ pair k v ms) (k ≡ j)
       (text_means j k)
       (then_means (order u v) (pairs_order ls ms) (less u v) (u ≡ v) (less v u) (pairs_less ls ms) (ls ≡ ms) (pairs_less ms ls) ((u ≡ v) × (ls ≡ ms)) (v ≡ u)
-      (order_means u v) (pairs_means ls ms) (λ e f. (e, f)) sym)
+      (means_by u v (within_means u v)) (pairs_means ls ms) (λ e f. (e, f)) sym)
       (λ e f i. pair (e i) (f.0 i) (f.1 i)) sym
+
+pub order_means : (a b : Plain) → MatchOrdering (order a b) (less a b) (a ≡ b) (less b a)
+order_means a b = means_by a b (within_means a b)
 
 pub order_says : (a b : Plain) (o : Ordering) → o ≡ order a b → MatchOrdering o (less a b) (a ≡ b) (less b a)
 order_says a b o e = rw e (order_means a b)

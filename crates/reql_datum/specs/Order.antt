@@ -27,29 +27,37 @@ text_less [] (y ∷ ys) = ⊤
 text_less (x ∷ xs) [] = ⊥
 text_less (x ∷ xs) (y ∷ ys) = (x < y) ⊎ ((x ≡ y) × text_less xs ys)
 
--- which of two plain values comes first
+-- first by the kinds, and of one kind as it says
+abbrev pub kinds_less : Plain → Plain → Type 0 → Type 0
+kinds_less a b within = (rank a < rank b) ⊎ ((rank a ≡ rank b) × within)
+
+-- which of two plain values of one kind comes first
 abbrev mutual
-  pub less : Plain → Plain → Type 0
-  less (array us) (array vs) = items_less us vs
-  less (boolean a) (boolean b) = (a ≡ false) × (b ≡ true)
-  less (number m) (number n) = m <ℤ n
-  less (object ms) (object ns) = pairs_less ms ns
-  less (binary s) (binary t) = text_less s t
-  less (time s) (time t) = moment_less s t
-  less (text s) (text t) = text_less s t
-  less a b = rank a < rank b
+  pub less_within : Plain → Plain → Type 0
+  less_within (array us) (array vs) = items_less us vs
+  less_within (boolean a) (boolean b) = (a ≡ false) × (b ≡ true)
+  less_within (number m) (number n) = m <ℤ n
+  less_within (object ms) (object ns) = pairs_less ms ns
+  less_within (binary s) (binary t) = text_less s t
+  less_within (time s) (time t) = moment_less s t
+  less_within (text s) (text t) = text_less s t
+  less_within a b = ⊥
 
   pub items_less : Plains → Plains → Type 0
   items_less no_items no_items = ⊥
   items_less no_items (item v vs) = ⊤
   items_less (item u us) no_items = ⊥
-  items_less (item u us) (item v vs) = less u v ⊎ ((u ≡ v) × items_less us vs)
+  items_less (item u us) (item v vs) = kinds_less u v (less_within u v) ⊎ ((u ≡ v) × items_less us vs)
 
   pub pairs_less : Pairs → Pairs → Type 0
   pairs_less no_pairs no_pairs = ⊥
   pairs_less no_pairs (pair k v ms) = ⊤
   pairs_less (pair j u ls) no_pairs = ⊥
-  pairs_less (pair j u ls) (pair k v ms) = text_less j k ⊎ ((j ≡ k) × (less u v ⊎ ((u ≡ v) × pairs_less ls ms)))
+  pairs_less (pair j u ls) (pair k v ms) = text_less j k ⊎ ((j ≡ k) × (kinds_less u v (less_within u v) ⊎ ((u ≡ v) × pairs_less ls ms)))
+
+-- which of two plain values comes first
+abbrev pub less : Plain → Plain → Type 0
+less a b = kinds_less a b (less_within a b)
 
 abbrev pub bool_order : Bool → Bool → Ordering
 bool_order false false = Equal
@@ -58,25 +66,32 @@ bool_order true false = Greater
 bool_order true true = Equal
 
 -- the same order as an answer
+abbrev pub kinds_order : Plain → Plain → Ordering → Ordering
+kinds_order a b within = ordering_then (nat_cmp (rank a) (rank b)) within
+
 abbrev mutual
-  pub order : Plain → Plain → Ordering
-  order (array us) (array vs) = items_order us vs
-  order (boolean a) (boolean b) = bool_order a b
-  order (number m) (number n) = int_cmp m n
-  order (object ms) (object ns) = pairs_order ms ns
-  order (binary s) (binary t) = slice_cmp nat_cmp s t
-  order (time s) (time t) = moment_order s t
-  order (text s) (text t) = slice_cmp nat_cmp s t
-  order a b = nat_cmp (rank a) (rank b)
+  pub order_within : Plain → Plain → Ordering
+  order_within (array us) (array vs) = items_order us vs
+  order_within (boolean a) (boolean b) = bool_order a b
+  order_within (number m) (number n) = int_cmp m n
+  order_within (object ms) (object ns) = pairs_order ms ns
+  order_within (binary s) (binary t) = slice_cmp nat_cmp s t
+  order_within (time s) (time t) = moment_order s t
+  order_within (text s) (text t) = slice_cmp nat_cmp s t
+  order_within a b = Equal
 
   pub items_order : Plains → Plains → Ordering
   items_order no_items no_items = Equal
   items_order no_items (item v vs) = Less
   items_order (item u us) no_items = Greater
-  items_order (item u us) (item v vs) = ordering_then (order u v) (items_order us vs)
+  items_order (item u us) (item v vs) = ordering_then (kinds_order u v (order_within u v)) (items_order us vs)
 
   pub pairs_order : Pairs → Pairs → Ordering
   pairs_order no_pairs no_pairs = Equal
   pairs_order no_pairs (pair k v ms) = Less
   pairs_order (pair j u ls) no_pairs = Greater
-  pairs_order (pair j u ls) (pair k v ms) = ordering_then (slice_cmp nat_cmp j k) (ordering_then (order u v) (pairs_order ls ms))
+  pairs_order (pair j u ls) (pair k v ms) =
+      ordering_then (slice_cmp nat_cmp j k) (ordering_then (kinds_order u v (order_within u v)) (pairs_order ls ms))
+
+abbrev pub order : Plain → Plain → Ordering
+order a b = kinds_order a b (order_within a b)

@@ -1,12 +1,12 @@
 -- The order of plain values is total: each plain value has a key in one rose tree, whose order has one case.
-use Rattle.std.proofs.Common.{◌≡◌, ℕ, ℤ, pos, negsuc, Bool, true, false, List, [], ◌∷◌, Ordering, Less, Equal, Greater, refl, sym, ap, ◌∙◌}
-use Rattle.std.specs.Ordering.{nat_cmp, int_cmp, ordering_then, ordering_reverse, on, then_cmp}
+use Rattle.std.proofs.Common.{◌≡◌, ℕ, zero, suc, ◌<◌, ℤ, pos, negsuc, Bool, true, false, List, [], ◌∷◌, Ordering, Less, Equal, Greater, refl, sym, ap, ◌∙◌, subst}
+use Rattle.std.specs.Ordering.{nat_cmp, int_cmp, ordering_then, ordering_reverse, on, then_cmp, MatchOrdering}
 use Rattle.std.specs.Cmp.{IsTotalOrder}
 use Rattle.std.specs.Cmp.Lexicographic.{slice_cmp}
-use Rattle.std.proofs.lemmas.Cmp.{int_cmp_total, nat_list_cmp_total, on_total, then_total}
+use Rattle.std.proofs.lemmas.Cmp.{int_cmp_total, nat_list_cmp_total, on_total, then_total, ranked}
 use Rattle.reql_datum.specs.Plain.{Plain, low, array, boolean, null, number, object, binary, time, text, high, Plains, no_items, item, Pairs, no_pairs, pair}
-use Rattle.reql_datum.specs.Zone.{zone_order, moment_order}
-use Rattle.reql_datum.specs.Order.{order, items_order, pairs_order}
+use Rattle.reql_datum.specs.Zone.{zone_order}
+use Rattle.reql_datum.specs.Order.{rank, order, order_within, items_order, pairs_order, bool_order}
 
 mutual
   data Key : Type 0 where
@@ -121,26 +121,37 @@ abbrev zone_key : ℤ → Key
 zone_key (pos n) = node (0 ∷ n ∷ [], pos 0) no_keys
 zone_key (negsuc n) = node (1 ∷ n ∷ [], pos 0) no_keys
 
+abbrev pub bytes_of : Plain → List ℕ
+bytes_of (binary s) = s
+bytes_of (text s) = s
+bytes_of v = []
+
+abbrev pub number_of : Plain → ℤ
+number_of (boolean b) = bit b
+number_of (number n) = n
+number_of (time t) = t.0
+number_of v = pos 0
+
+abbrev top_key : Plain → Keys → Key
+top_key v inside = node (rank v ∷ bytes_of v, number_of v) inside
+
 abbrev mutual
-  key : Plain → Key
-  key low = node (0 ∷ [], pos 0) no_keys
-  key (array vs) = node (1 ∷ [], pos 0) (items_key vs)
-  key (boolean b) = node (2 ∷ [], bit b) no_keys
-  key null = node (3 ∷ [], pos 0) no_keys
-  key (number n) = node (4 ∷ [], n) no_keys
-  key (object ms) = node (5 ∷ [], pos 0) (pairs_key ms)
-  key (binary s) = node (6 ∷ s, pos 0) no_keys
-  key (time t) = node (7 ∷ [], t.0) (more (zone_key t.1) no_keys)
-  key (text s) = node (8 ∷ s, pos 0) no_keys
-  key high = node (9 ∷ [], pos 0) no_keys
+  inside : Plain → Keys
+  inside (array vs) = items_key vs
+  inside (object ms) = pairs_key ms
+  inside (time t) = more (zone_key t.1) no_keys
+  inside v = no_keys
 
   items_key : Plains → Keys
   items_key no_items = no_keys
-  items_key (item v vs) = more (key v) (items_key vs)
+  items_key (item v vs) = more (top_key v (inside v)) (items_key vs)
 
   pairs_key : Pairs → Keys
   pairs_key no_pairs = no_keys
-  pairs_key (pair k v ms) = more (bytes_key k) (more (key v) (pairs_key ms))
+  pairs_key (pair k v ms) = more (bytes_key k) (more (top_key v (inside v)) (pairs_key ms))
+
+abbrev key : Plain → Key
+key v = top_key v (inside v)
 
 then_none : (o : Ordering) → ordering_then o Equal ≡ o
 then_none Less = refl
@@ -158,130 +169,105 @@ zone_same (pos m) (negsuc n) = refl
 zone_same (negsuc m) (pos n) = refl
 zone_same (negsuc m) (negsuc n) = none_twice (nat_cmp m n) ∙ none_twice (ordering_then (ordering_then (nat_cmp m n) Equal) Equal)
 
-moment_same : (s t : ℤ × ℤ) → moment_order s t ≡ key_order (key (time s)) (key (time t))
-moment_same s t = λ i. ordering_then (int_cmp s.0 t.0) (zone_same s.1 t.1 i)
+-- ---- what a rank tells: the kind
+abbrev pub items_in : Plain → Plains
+items_in (array vs) = vs
+items_in v = no_items
+
+abbrev pub bool_in : Plain → Bool
+bool_in (boolean b) = b
+bool_in v = false
+
+abbrev pub pairs_in : Plain → Pairs
+pairs_in (object ms) = ms
+pairs_in v = no_pairs
+
+abbrev pub moment_in : Plain → ℤ × ℤ
+moment_in (time t) = t
+moment_in v = (pos 0, pos 0)
+
+abbrev pub of_kind : ℕ → Plain → Plain
+of_kind zero v = low
+of_kind (suc zero) v = array (items_in v)
+of_kind (suc (suc zero)) v = boolean (bool_in v)
+of_kind (suc (suc (suc zero))) v = null
+of_kind (suc (suc (suc (suc zero)))) v = number (number_of v)
+of_kind (suc (suc (suc (suc (suc zero))))) v = object (pairs_in v)
+of_kind (suc (suc (suc (suc (suc (suc zero)))))) v = binary (bytes_of v)
+of_kind (suc (suc (suc (suc (suc (suc (suc zero))))))) v = time (moment_in v)
+of_kind (suc (suc (suc (suc (suc (suc (suc (suc zero)))))))) v = text (bytes_of v)
+of_kind (suc (suc (suc (suc (suc (suc (suc (suc (suc n))))))))) v = high
+
+of_own_kind : (v : Plain) → of_kind (rank v) v ≡ v
+of_own_kind low = refl
+of_own_kind (array vs) = refl
+of_own_kind (boolean b) = refl
+of_own_kind null = refl
+of_own_kind (number n) = refl
+of_own_kind (object ms) = refl
+of_own_kind (binary s) = refl
+of_own_kind (time t) = refl
+of_own_kind (text s) = refl
+of_own_kind high = refl
+
+pub kind_is : (n : ℕ) (v : Plain) → n ≡ rank v → of_kind n v ≡ v
+kind_is n v e = ap (λ m. of_kind m v) e ∙ of_own_kind v
+
+-- ---- the order is that of the keys
+bools_same : (a b : Bool) → bool_order a b ≡ ordering_then (int_cmp (bit a) (bit b)) Equal
+bools_same false false = refl
+bools_same false true = refl
+bools_same true false = refl
+bools_same true true = refl
+
+equal_nats : (o : Ordering) (m n : ℕ) → o ≡ Equal → MatchOrdering o (m < n) (m ≡ n) (n < m) → m ≡ n
+equal_nats Less m n e h = cc
+equal_nats Equal m n e h = h
+equal_nats Greater m n e h = cc
+
+same_at : (o p q r s : Ordering) → (o ≡ Equal → p ≡ ordering_then (ordering_then q r) s) → ordering_then o p ≡ ordering_then (ordering_then (ordering_then o q) r) s
+same_at Less p q r s same = refl
+same_at Equal p q r s same = same refl
+same_at Greater p q r s same = refl
+
+abbrev SameWithin : Plain → Plain → Type 0
+SameWithin a b =
+    order_within a b ≡ ordering_then (ordering_then (slice_cmp nat_cmp (bytes_of a) (bytes_of b)) (int_cmp (number_of a) (number_of b))) (keys_order (inside a) (inside b))
+
+same_by : (a b : Plain) → (rank a ≡ rank b → SameWithin a b) → order a b ≡ key_order (key a) (key b)
+same_by a b within =
+    same_at (nat_cmp (rank a) (rank b)) (order_within a b) (slice_cmp nat_cmp (bytes_of a) (bytes_of b)) (int_cmp (number_of a) (number_of b)) (keys_order (inside a) (inside b))
+    (λ e. within (equal_nats (nat_cmp (rank a) (rank b)) (rank a) (rank b) e (ranked (rank a) (rank b) _ refl)))
 
 mutual
-  same : (a b : Plain) → order a b ≡ key_order (key a) (key b)
-  -- cases
-  same low low = refl
-  same low (array vs') = refl
-  same low (boolean b') = refl
-  same low null = refl
-  same low (number n') = refl
-  same low (object ms') = refl
-  same low (binary s') = refl
-  same low (time t') = refl
-  same low (text s') = refl
-  same low high = refl
-  same (array vs) low = refl
-  same (array vs) (array vs') = items_same vs vs'
-  same (array vs) (boolean b') = refl
-  same (array vs) null = refl
-  same (array vs) (number n') = refl
-  same (array vs) (object ms') = refl
-  same (array vs) (binary s') = refl
-  same (array vs) (time t') = refl
-  same (array vs) (text s') = refl
-  same (array vs) high = refl
-  same (boolean b) low = refl
-  same (boolean b) (array vs') = refl
-  same (boolean false) (boolean false) = refl
-  same (boolean false) (boolean true) = refl
-  same (boolean true) (boolean false) = refl
-  same (boolean true) (boolean true) = refl
-  same (boolean b) null = refl
-  same (boolean b) (number n') = refl
-  same (boolean b) (object ms') = refl
-  same (boolean b) (binary s') = refl
-  same (boolean b) (time t') = refl
-  same (boolean b) (text s') = refl
-  same (boolean b) high = refl
-  same null low = refl
-  same null (array vs') = refl
-  same null (boolean b') = refl
-  same null null = refl
-  same null (number n') = refl
-  same null (object ms') = refl
-  same null (binary s') = refl
-  same null (time t') = refl
-  same null (text s') = refl
-  same null high = refl
-  same (number n) low = refl
-  same (number n) (array vs') = refl
-  same (number n) (boolean b') = refl
-  same (number n) null = refl
-  same (number n) (number n') = sym (then_none (int_cmp n n'))
-  same (number n) (object ms') = refl
-  same (number n) (binary s') = refl
-  same (number n) (time t') = refl
-  same (number n) (text s') = refl
-  same (number n) high = refl
-  same (object ms) low = refl
-  same (object ms) (array vs') = refl
-  same (object ms) (boolean b') = refl
-  same (object ms) null = refl
-  same (object ms) (number n') = refl
-  same (object ms) (object ms') = pairs_same ms ms'
-  same (object ms) (binary s') = refl
-  same (object ms) (time t') = refl
-  same (object ms) (text s') = refl
-  same (object ms) high = refl
-  same (binary s) low = refl
-  same (binary s) (array vs') = refl
-  same (binary s) (boolean b') = refl
-  same (binary s) null = refl
-  same (binary s) (number n') = refl
-  same (binary s) (object ms') = refl
-  same (binary s) (binary s') = none_twice (slice_cmp nat_cmp s s')
-  same (binary s) (time t') = refl
-  same (binary s) (text s') = refl
-  same (binary s) high = refl
-  same (time t) low = refl
-  same (time t) (array vs') = refl
-  same (time t) (boolean b') = refl
-  same (time t) null = refl
-  same (time t) (number n') = refl
-  same (time t) (object ms') = refl
-  same (time t) (binary s') = refl
-  same (time t) (time t') = moment_same t t'
-  same (time t) (text s') = refl
-  same (time t) high = refl
-  same (text s) low = refl
-  same (text s) (array vs') = refl
-  same (text s) (boolean b') = refl
-  same (text s) null = refl
-  same (text s) (number n') = refl
-  same (text s) (object ms') = refl
-  same (text s) (binary s') = refl
-  same (text s) (time t') = refl
-  same (text s) (text s') = none_twice (slice_cmp nat_cmp s s')
-  same (text s) high = refl
-  same high low = refl
-  same high (array vs') = refl
-  same high (boolean b') = refl
-  same high null = refl
-  same high (number n') = refl
-  same high (object ms') = refl
-  same high (binary s') = refl
-  same high (time t') = refl
-  same high (text s') = refl
-  same high high = refl
-
-  -- end of cases
+  same_within : (a b : Plain) → rank a ≡ rank b → SameWithin a b
+  same_within low b e = subst (SameWithin low) (kind_is 0 b e) refl
+  same_within (array us) b e = subst (SameWithin (array us)) (kind_is 1 b e) (items_same us (items_in b))
+  same_within (boolean c) b e = subst (SameWithin (boolean c)) (kind_is 2 b e) (bools_same c (bool_in b))
+  same_within null b e = subst (SameWithin null) (kind_is 3 b e) refl
+  same_within (number n) b e = subst (SameWithin (number n)) (kind_is 4 b e) (sym (then_none (int_cmp n (number_of b))))
+  same_within (object ms) b e = subst (SameWithin (object ms)) (kind_is 5 b e) (pairs_same ms (pairs_in b))
+  same_within (binary s) b e = subst (SameWithin (binary s)) (kind_is 6 b e) (none_twice (slice_cmp nat_cmp s (bytes_of b)))
+  same_within (time t) b e =
+      subst (SameWithin (time t)) (kind_is 7 b e) (λ i. ordering_then (int_cmp t.0 (moment_in b).0) (zone_same t.1 (moment_in b).1 i))
+  same_within (text s) b e = subst (SameWithin (text s)) (kind_is 8 b e) (none_twice (slice_cmp nat_cmp s (bytes_of b)))
+  same_within high b e = subst (SameWithin high) (kind_is 9 b e) refl
 
   items_same : (us vs : Plains) → items_order us vs ≡ keys_order (items_key us) (items_key vs)
   items_same no_items no_items = refl
   items_same no_items (item v vs) = refl
   items_same (item u us) no_items = refl
-  items_same (item u us) (item v vs) = λ i. ordering_then (same u v i) (items_same us vs i)
+  items_same (item u us) (item v vs) = λ i. ordering_then (same_by u v (same_within u v) i) (items_same us vs i)
 
   pairs_same : (ls ms : Pairs) → pairs_order ls ms ≡ keys_order (pairs_key ls) (pairs_key ms)
   pairs_same no_pairs no_pairs = refl
   pairs_same no_pairs (pair k v ms) = refl
   pairs_same (pair j u ls) no_pairs = refl
   pairs_same (pair j u ls) (pair k v ms) = λ i.
-      ordering_then (none_twice (slice_cmp nat_cmp j k) i) (ordering_then (same u v i) (pairs_same ls ms i))
+      ordering_then (none_twice (slice_cmp nat_cmp j k) i) (ordering_then (same_by u v (same_within u v) i) (pairs_same ls ms i))
+
+same : (a b : Plain) → order a b ≡ key_order (key a) (key b)
+same a b = same_by a b (same_within a b)
 
 pub order_total : IsTotalOrder order
 order_total = record {

@@ -30,10 +30,8 @@ impl Blob {
     pub fn of(alloc: Global, bytes: &[u8]) -> Result<Blob, Memory>
         ensures { IfOk result (λ b. b ≡ bytes.now) }
     {
-        match ArcSlice::from_slice(alloc, bytes) {
-            Ok(bytes) => Ok(Blob { bytes }),
-            Err(_) => Err(Memory),
-        }
+        let bytes = ArcSlice::from_slice(alloc, bytes)?;
+        Ok(Blob { bytes })
     }
 
     /// The bytes.
@@ -56,9 +54,7 @@ impl Blob {
     pub fn copy(&self) -> Result<Blob, Memory>
         ensures { IfOk result (λ b. b ≡ self.now) }
     {
-        match self.bytes.clone() {
-            Ok(bytes) => Ok(Blob { bytes }),
-            Err(_) => Err(Memory),
-        }
+        let bytes = self.bytes.clone()?;
+        Ok(Blob { bytes })
     }
 }

@@ -5,7 +5,7 @@ ghost use Rattle.std.specs.Cmp.{IsTotalOrder};
 ghost use Rattle.std.specs.declared.cmp.Ordering.TheVariants.{Less, Equal};
 ghost use Rattle.reql_datum.specs.Plain.{Plain, items_of, pairs_of};
 ghost use Rattle.reql_datum.specs.View.{plain};
-ghost use Rattle.reql_datum.specs.Order.{rank, less, order, items_order, pairs_order};
+ghost use Rattle.reql_datum.specs.Order.{rank, less, order, order_within, items_order, pairs_order};
 
 use crate::datum::{Datum, Fields, Items};
 use std::cmp::Ordering;
@@ -45,6 +45,19 @@ pub fn compare(a: &Datum, b: &Datum) -> Ordering
 fn ordered(a: &Datum, b: &Datum) -> Ordering
     ensures { result ≡ order (plain a.now) (plain b.now) }
 {
+    let kinds = rank(a).cmp(&rank(b));
+    if kinds.is_ne() {
+        return kinds;
+    }
+    ordered_within(a, b)
+}
+
+// The order of two of one kind.
+#[cycle(compare)]
+#[tactic(auto, using(crate::proofs::Walks::walks))]
+fn ordered_within(a: &Datum, b: &Datum) -> Ordering
+    ensures { result ≡ order_within (plain a.now) (plain b.now) }
+{
     match (a, b) {
         (Datum::List(us), Datum::List(vs)) => compare_items(us, vs),
         (Datum::Bool(p), Datum::Bool(q)) => p.cmp(q),
@@ -53,7 +66,7 @@ fn ordered(a: &Datum, b: &Datum) -> Ordering
         (Datum::Binary(s), Datum::Binary(t)) => s.order(t.as_bytes()),
         (Datum::Time(s), Datum::Time(t)) => s.order(*t),
         (Datum::Text(s), Datum::Text(t)) => s.order(t.as_str()),
-        _ => rank(a).cmp(&rank(b)),
+        _ => Ordering::Equal,
     }
 }
 

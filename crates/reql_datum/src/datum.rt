@@ -1,15 +1,12 @@
 // A document, and the lists and objects in it.
-ghost use Rattle.std.specs.Prelude.{◌≡◌, [], ◌∷◌, ◌++◌, length, map, is_ok, IfOk, IfErr, OnSome, MatchOption, drop, ◌+◌, ◌^◌, ◌<◌, option_map, slice_get, nat_eq, if◌then◌else◌};
-ghost use Rattle.reql_datum.specs.View.{plain, member};
-ghost use Rattle.reql_datum.specs.Members.{find, put, without, AreRising};
+ghost use Rattle.std.specs.Prelude.{◌≡◌, IfOk};
 
 use crate::blob::Blob;
-use crate::edit::{put_in, remove_in, value_in};
 use crate::moment::Moment;
 use crate::name::Name;
-use crate::shared::{copied, own, push_on, roomy, shown};
+use crate::shape::Shape;
 use crate::whole::Whole;
-use reql_memory::{Memory, Refused};
+use reql_memory::Memory;
 use std::alloc::{AllocError, Global};
 use std::marker::Model;
 use std::sync::Arc;
@@ -40,8 +37,9 @@ pub enum Datum {
 #[cycle(datum)]
 #[derive(Drop)]
 pub struct Items {
-    alloc: Global,
-    held: Option<Arc<Vec<Datum>>>,
+    pub(crate) alloc: Global,
+    pub(crate) held: Option<Arc<Vec<Datum>>>,
+    pub(crate) shape: Shape,
 }
 
 /// The members of an object, a map from names to documents that rises by the bytes of the names.
@@ -52,12 +50,10 @@ pub struct Items {
 #[cycle(datum)]
 #[derive(Drop)]
 pub struct Fields {
-    alloc: Global,
-    held: Option<Arc<Vec<Field>>>,
+    pub(crate) alloc: Global,
+    pub(crate) held: Option<Arc<Vec<Field>>>,
+    pub(crate) shape: Shape,
 }
-
-// An object of up to so many names takes no more memory than at its first.
-const ROOM: usize = 12;
 
 #[cycle(datum)]
 #[derive(Drop)]
@@ -76,15 +72,20 @@ impl Model for Items {
     ghost coded = { list_code };
 
     ghost use Rattle.reql_datum.specs.View.{plain};
-    ghost use Rattle.reql_datum.specs.Shared.{held_items};
+    ghost use Rattle.reql_memory.specs.CopyOnWrite.{held_items};
 
     ghost view = { λ a. map plain (held_items a.held) };
+
+    ghost use Rattle.std.specs.Prelude.{◌≡◌};
+    ghost use Rattle.reql_datum.specs.Shapes.{items_shape};
+
+    ghost invariant = { λ a. a.shape ≡ items_shape (map plain (held_items a.held)) };
 
     ghost size = { list_weight };
 
     ghost use Rattle.reql_datum.specs.Falls.{held_fall};
 
-    ghost size_decreases = { λ a h. held_fall a.alloc a.held };
+    ghost size_decreases = { λ a h. held_fall a.alloc a.held a.shape };
 }
 
 impl Model for Fields {
@@ -97,92 +98,19 @@ impl Model for Fields {
     ghost coded = { pairs_code };
 
     ghost use Rattle.reql_datum.specs.View.{member};
-    ghost use Rattle.reql_datum.specs.Shared.{held_items};
+    ghost use Rattle.reql_memory.specs.CopyOnWrite.{held_items};
 
     ghost view = { λ a. map member (held_items a.held) };
 
-    ghost use Rattle.reql_datum.specs.Members.{AreRising};
+    ghost use Rattle.reql_datum.specs.Shapes.{FieldsHold};
 
-    ghost invariant = { λ a. AreRising (map member (held_items a.held)) };
+    ghost invariant = { λ a. FieldsHold a.shape (map member (held_items a.held)) };
 
     ghost size = { members_weight };
 
     ghost use Rattle.reql_datum.specs.Falls.{held_members_fall};
 
-    ghost size_decreases = { λ a h. held_members_fall a.alloc a.held };
-}
-
-impl Items {
-    /// The list of nothing, which takes no memory.
-    pub fn new(alloc: Global) -> Items
-        ensures { result ≡ [] }
-    {
-        Items { alloc, held: None }
-    }
-
-    /// The list of nothing, with room for so many items.
-    pub fn with_room(alloc: Global, room: usize) -> Result<Items, Memory>
-        ensures { IfOk result (λ items. items ≡ []) }
-    {
-        let held = roomy(alloc, room)?;
-        Ok(Items { alloc, held })
-    }
-
-    /// The items as a slice.
-    pub fn as_slice(&self) -> &[Datum]
-        ensures { map plain result.now ≡ self.now }
-    {
-        shown(&self.held)
-    }
-
-    /// How many items it has.
-    pub fn len(&self) -> usize
-        ensures { result ≡ length self.now }
-    {
-        self.as_slice().len()
-    }
-
-    /// Whether it has no item.
-    pub fn is_empty(&self) -> bool
-        ensures { result ≡ nat_eq (length self.now) 0 }
-    {
-        self.as_slice().is_empty()
-    }
-
-    /// The item at a place. With `rest`, a loop over the places proves itself.
-    pub fn at(&self, place: usize) -> Option<&Datum>
-        ensures found { option_map (λ d. plain d.now) result ≡ slice_get self.now place }
-        ensures rest { MatchOption result (drop place self.now ≡ []) (λ d. drop place self.now ≡ plain d.now ∷ drop (place + 1) self.now) }
-        ensures place_fits { OnSome result (place < 2 ^ 63) }
-    {
-        self.seek(place)
-    }
-
-    fn seek(&self, place: usize) -> Option<&Datum>
-        ensures found { option_map (λ d. plain d.now) result ≡ slice_get self.now place }
-        ensures place_fits { OnSome result (place < 2 ^ 63) }
-    {
-        self.as_slice().get(place)
-    }
-
-    /// Adds an item at the end, in place where the list isn't shared.
-    pub fn push(&mut self, item: Datum) -> Result<(), Refused<Datum>>
-        ensures items { self.new ≡ (if is_ok result then self.old ++ plain item ∷ [] else self.old) }
-        ensures back { IfErr result (λ refused. refused.back ≡ item) }
-    {
-        push_on(self.alloc, &mut self.held, item)
-    }
-
-    /// An equal list that shares the items. Memory where the count of sharers is full.
-    pub fn copy(&self) -> Result<Items, Memory>
-        ensures { IfOk result (λ items. items ≡ self.now) }
-    {
-        let held = copied(&self.held)?;
-        Ok(Items {
-            alloc: self.alloc,
-            held,
-        })
-    }
+    ghost size_decreases = { λ a h. held_members_fall a.alloc a.held a.shape };
 }
 
 impl Clone for Datum {
@@ -224,126 +152,6 @@ impl Datum {
             Datum::Time(moment) => Ok(Datum::Time(*moment)),
             Datum::Text(name) => Ok(Datum::Text(name.copy()?)),
             Datum::High => Ok(Datum::High),
-        }
-    }
-}
-
-impl Fields {
-    /// The object without members, which takes no memory.
-    pub fn new(alloc: Global) -> Fields
-        ensures { result ≡ [] }
-    {
-        Fields { alloc, held: None }
-    }
-
-    /// The object without members, with room for so many.
-    pub fn with_room(alloc: Global, room: usize) -> Result<Fields, Memory>
-        ensures { IfOk result (λ fields. fields ≡ []) }
-    {
-        let held = roomy(alloc, room)?;
-        Ok(Fields { alloc, held })
-    }
-
-    fn members(&self) -> &[Field]
-        ensures members { map member result.now ≡ self.now }
-        ensures rising { AreRising self.now }
-    {
-        shown(&self.held)
-    }
-
-    /// The value at a name.
-    pub fn get(&self, name: &str) -> Option<&Datum>
-        ensures { option_map (λ d. plain d.now) result ≡ find name.now self.now }
-    {
-        value_in(self.members(), name)
-    }
-
-    /// Puts a value at a name, and gives the value that it replaced.
-    pub fn put(&mut self, name: Name, value: Datum) -> Result<Option<Datum>, Refused<(Name, Datum)>>
-        ensures replaced { IfOk result (λ old. option_map plain old ≡ find name self.old) }
-        ensures members { self.new ≡ (if is_ok result then put name (plain value) self.old else self.old) }
-        ensures back { IfErr result (λ refused. refused.back ≡ (name, value)) }
-    {
-        if let Err(_) = own(self.alloc, &mut self.held, ROOM) {
-            return Err(Refused {
-                back: (name, value),
-            });
-        }
-        match &mut self.held {
-            None => Err(Refused {
-                back: (name, value),
-            }),
-            Some(list) => match Arc::get_mut(list) {
-                None => Err(Refused {
-                    back: (name, value),
-                }),
-                Some(held) => put_in(held, name, value),
-            },
-        }
-    }
-
-    /// Removes a name with its value, and gives the value. Memory where a shared object can't be
-    /// copied.
-    pub fn remove(&mut self, name: &str) -> Result<Option<Datum>, Memory>
-        ensures removed { IfOk result (λ old. option_map plain old ≡ find name.now self.old) }
-        ensures members { self.new ≡ (if is_ok result then without name.now self.old else self.old) }
-    {
-        if let None = self.get(name) {
-            return Ok(None);
-        }
-        own(self.alloc, &mut self.held, ROOM)?;
-        match &mut self.held {
-            None => Err(Memory),
-            Some(list) => match Arc::get_mut(list) {
-                None => Err(Memory),
-                Some(held) => Ok(remove_in(held, name)),
-            },
-        }
-    }
-
-    /// An equal object that shares the members. Memory where the count of sharers is full.
-    pub fn copy(&self) -> Result<Fields, Memory>
-        ensures { IfOk result (λ fields. fields ≡ self.now) }
-    {
-        let held = copied(&self.held)?;
-        Ok(Fields {
-            alloc: self.alloc,
-            held,
-        })
-    }
-
-    /// How many members it has.
-    pub fn len(&self) -> usize
-        ensures { result ≡ length self.now }
-    {
-        self.members().len()
-    }
-
-    /// Whether it has no member.
-    pub fn is_empty(&self) -> bool
-        ensures { result ≡ nat_eq (length self.now) 0 }
-    {
-        self.members().is_empty()
-    }
-
-    /// The member at a place. With `rest`, a loop over the places proves itself.
-    pub fn at(&self, place: usize) -> Option<(&Name, &Datum)>
-        ensures found { option_map (λ m. (m.0.now, plain m.1.now)) result ≡ slice_get self.now place }
-        ensures rest { MatchOption result (drop place self.now ≡ []) (λ m. drop place self.now ≡ (m.0.now, plain m.1.now) ∷ drop (place + 1) self.now) }
-        ensures place_fits { OnSome result (place < 2 ^ 63) }
-        ensures rising { AreRising self.now }
-    {
-        self.seek(place)
-    }
-
-    fn seek(&self, place: usize) -> Option<(&Name, &Datum)>
-        ensures found { option_map (λ m. (m.0.now, plain m.1.now)) result ≡ slice_get self.now place }
-        ensures place_fits { OnSome result (place < 2 ^ 63) }
-        ensures rising { AreRising self.now }
-    {
-        match self.members().get(place) {
-            Some(field) => Some((&field.name, &field.value)),
-            None => None,
         }
     }
 }

@@ -4,12 +4,15 @@
 mod blob;
 mod comparing;
 mod datum;
-mod edit;
+mod entry;
 mod fault;
+mod fields;
+mod items;
+mod kinds;
 mod moment;
 mod name;
+mod point;
 mod shape;
-pub mod shared;
 mod whole;
 
 pub use blob::Blob;
@@ -18,5 +21,6 @@ pub use datum::{Datum, Fields, Items};
 pub use fault::Fault;
 pub use moment::{Moment, zone_laws};
 pub use name::Name;
+pub use point::Point;
 pub use reql_memory::{Memory, Refused, Seq};
 pub use whole::{NumFault, Whole};

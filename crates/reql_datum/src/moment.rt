@@ -59,10 +59,8 @@ impl Moment {
     pub fn order(self, other: Moment) -> Ordering
         ensures { result ≡ moment_order self other }
     {
-        self.at
-            .get()
-            .cmp(&other.at.get())
-            .then(order_zones(self.zone, other.zone))
+        let instants = self.at.get().cmp(&other.at.get());
+        instants.then(order_zones(self.zone, other.zone))
     }
 }
 

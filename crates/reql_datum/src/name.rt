@@ -30,10 +30,8 @@ impl Name {
     pub fn of(alloc: Global, text: &str) -> Result<Name, Memory>
         ensures { IfOk result (λ n. n ≡ text.now) }
     {
-        match ArcStr::from_str(alloc, text) {
-            Ok(chars) => Ok(Name { chars }),
-            Err(_) => Err(Memory),
-        }
+        let chars = ArcStr::from_str(alloc, text)?;
+        Ok(Name { chars })
     }
 
     /// The text.
@@ -56,10 +54,8 @@ impl Name {
     pub fn copy(&self) -> Result<Name, Memory>
         ensures { IfOk result (λ n. n ≡ self.now) }
     {
-        match self.chars.clone() {
-            Ok(chars) => Ok(Name { chars }),
-            Err(_) => Err(Memory),
-        }
+        let chars = self.chars.clone()?;
+        Ok(Name { chars })
     }
 }
 
