@@ -1,5 +1,8 @@
 pub mod Rising
 pub mod Steps
-pub mod Entered
+pub mod Symbols
+pub mod Zones
+pub mod Names
 pub mod Back
+pub mod Shown
 pub mod Spelled

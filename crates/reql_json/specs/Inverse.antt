@@ -1,15 +1,18 @@
 -- Which documents and values stand for each other.
-use Rattle.std.specs.Prelude.{◌≡◌, Bool, true, false, ◌&&◌, ◌||◌, Some, Ok}
+use Rattle.std.specs.Prelude.{◌≡◌, ℕ, List, codes, Bool, true, ◌&&◌, is_some, if◌then◌else◌, Some, unwrap_or, option_map, Ok}
 use Rattle.std.specs.Ordering.{is_eq}
 use Rattle.serde_json.specs.Data as json
-use Rattle.serde_json.specs.Find.{of_integer}
+use Rattle.serde_json.specs.Find.{of_integer, get_member}
+use Rattle.reql_datum.specs.Kinds.{reserved, is_storable}
 use Rattle.reql_datum.specs.Members.{text_order}
 use Rattle.reql_datum.specs.Plain.{Plain, low, array, boolean, null, number, object, binary, time, text, high, Plains, no_items, item, Pairs, no_pairs, pair}
 use Rattle.reql_datum.specs.Whole.{is_in}
-use Rattle.reql_json.specs.Reading.{document, reserved}
+use Rattle.reql_datum.specs.Zone.{is_zone, zone_text}
+use Rattle.reql_json.specs.Literal.{are_bytes, without_line_ends, zone_in}
+use Rattle.reql_json.specs.Reading.{document}
 use Rattle.reql_json.specs.Showing.{value}
 
--- each number in it is in the range
+-- each number, byte and zone in it is in its range, as in every document
 abbrev mutual
   pub in_range : Plain → Bool
   in_range low = true
@@ -18,8 +21,8 @@ abbrev mutual
   in_range null = true
   in_range (number z) = is_in z
   in_range (object ms) = pairs_in_range ms
-  in_range (binary s) = true
-  in_range (time t) = true
+  in_range (binary s) = are_bytes s
+  in_range (time t) = is_in t.0 && is_zone t.1
   in_range (text s) = true
   in_range high = true
 
@@ -31,34 +34,33 @@ abbrev mutual
   pairs_in_range no_pairs = true
   pairs_in_range (pair k v ms) = in_range v && pairs_in_range ms
 
--- an object in it has the reserved name
-abbrev mutual
-  pub has_reserved : Plain → Bool
-  has_reserved low = false
-  has_reserved (array vs) = any_has_reserved vs
-  has_reserved (boolean b) = false
-  has_reserved null = false
-  has_reserved (number z) = false
-  has_reserved (object ms) = pairs_have_reserved ms
-  has_reserved (binary s) = false
-  has_reserved (time t) = false
-  has_reserved (text s) = false
-  has_reserved high = false
-
-  pub any_has_reserved : Plains → Bool
-  any_has_reserved no_items = false
-  any_has_reserved (item v vs) = has_reserved v || any_has_reserved vs
-
-  pub pairs_have_reserved : Pairs → Bool
-  pairs_have_reserved no_pairs = false
-  pairs_have_reserved (pair k v ms) = is_eq (text_order reserved k) || (has_reserved v || pairs_have_reserved ms)
-
 -- A whole number that isn't below 0 is held without a sign, as `serde_json` holds each that it reads.
 abbrev pub signed : json.Num → json.Num
 signed (json.unsigned n) = json.unsigned n
 signed (json.negative z) = of_integer z
 signed (json.float x) = json.float x
 
+-- a zone as it is written: Z and -00:00 are +00:00
+abbrev pub zone_spelled : List ℕ → List ℕ
+zone_spelled s = unwrap_or (option_map zone_text (zone_in s)) s
+
+-- the text at a name of a binary or a time: data has no line end
+abbrev pub text_spelled : List ℕ → List ℕ → List ℕ
+text_spelled k s = if is_eq (text_order (codes "data") k) then without_line_ends s else (if is_eq (text_order (codes "timezone") k) then zone_spelled s else s)
+
+abbrev pub part : List ℕ → json.Data → json.Data
+part k json.null = json.null
+part k (json.boolean b) = json.boolean b
+part k (json.number n) = json.number (signed n)
+part k (json.string s) = json.string (text_spelled k s)
+part k (json.array ds) = json.array ds
+part k (json.object ms) = json.object ms
+
+abbrev pub parts : json.Members → json.Members
+parts json.no_members = json.no_members
+parts (json.member k d ms) = json.member k (part k d) (parts ms)
+
+-- A value in the one spelling that is shown: of several that are read as the same number, binary or time, the canonical one.
 abbrev mutual
   pub normal : json.Data → json.Data
   normal json.null = json.null
@@ -66,7 +68,7 @@ abbrev mutual
   normal (json.number n) = json.number (signed n)
   normal (json.string s) = json.string s
   normal (json.array ds) = json.array (normal_items ds)
-  normal (json.object ms) = json.object (normal_members ms)
+  normal (json.object ms) = json.object (if is_some (get_member reserved ms) then parts ms else normal_members ms)
 
   pub normal_items : json.Items → json.Items
   normal_items json.no_items = json.no_items
@@ -76,9 +78,13 @@ abbrev mutual
   normal_members json.no_members = json.no_members
   normal_members (json.member k d ms) = json.member k (normal d) (normal_members ms)
 
+-- a document has a value exactly where it may be stored
+abbrev pub ShowsStorable : Type 0
+ShowsStorable = (p : Plain) → is_some (value p) ≡ is_storable p
+
 -- what a document is shown as reads as that document
 abbrev pub ReadsBack : Type 0
-ReadsBack = (p : Plain) (d : json.Data) → value p ≡ Some d → in_range p ≡ true → has_reserved p ≡ false → document d ≡ Ok p
+ReadsBack = (p : Plain) (d : json.Data) → value p ≡ Some d → in_range p ≡ true → document d ≡ Ok p
 
 -- the document of a value is shown as that value
 abbrev pub ShowsBack : Type 0
@@ -86,4 +92,4 @@ ShowsBack = (d : json.Data) (p : Plain) → document d ≡ Ok p → value p ≡ 
 
 -- a document that was read can be read back
 abbrev pub KeepsReading : Type 0
-KeepsReading = (d : json.Data) (p : Plain) → document d ≡ Ok p → (in_range p ≡ true) × (has_reserved p ≡ false)
+KeepsReading = (d : json.Data) (p : Plain) → document d ≡ Ok p → (in_range p ≡ true) × (is_storable p ≡ true)

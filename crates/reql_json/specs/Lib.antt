@@ -1,3 +1,4 @@
+pub mod Literal
 pub mod Reading
 pub mod Showing
 pub mod Inverse

@@ -1,18 +1,31 @@
--- The tokens that stand after a document was written to where ts stood.
-use Rattle.std.specs.Prelude.{ℕ, List, ◌++◌, Option, option_map}
-use Rattle.json.specs.Token.{Token}
-use Rattle.json.specs.Tree.{json_tokens, items_tokens, members_tokens}
+-- What stands in a writer of JSON after a document was written to it.
+use Rattle.std.specs.Prelude.{ℕ, ℤ, List, [], ◌∷◌, ◌++◌, codes, Bool}
+use Rattle.std.specs.Fmt.{signed_decimal}
+use Rattle.json.specs.Token.{Token, begin_object, end_object, key, string, number}
+use Rattle.json.specs.Print.{print, ends_value}
+use Rattle.json.specs.Written.{Written}
 use Rattle.serde_json.specs.Data.{Data}
-use Rattle.serde_json.specs.View as seen
-use Rattle.serde_json.specs.Written.{outline, items_outline, members_outline}
-use Rattle.reql_json.specs.Showing.{members_of}
+use Rattle.serde_json.specs.Written.{comma_if, compact_text}
+use Rattle.reql_datum.specs.Zone.{zone_text}
 
-abbrev pub after : List Token → Option Data → Option (List Token)
-after ts = option_map (λ d. ts ++ json_tokens (outline d))
+-- the whole text of a writer
+abbrev pub text_in : Written → List ℕ
+text_in w = w.before ++ print w.tokens
 
--- with the closing bracket
-abbrev pub items_after : List Token → Option (List Data) → Option (List Token)
-items_after ts = option_map (λ ds. ts ++ items_tokens (items_outline (seen.items_of ds)))
+-- a value ends where its text ends, so that a comma stands before the next
+abbrev pub is_after_value : Written → Bool
+is_after_value w = ends_value w.tokens
 
-abbrev pub members_after : List Token → Option (List (List ℕ × Data)) → Option (List Token)
-members_after ts = option_map (λ ds. ts ++ members_tokens (members_outline (members_of ds)))
+-- the text with one more value
+abbrev pub text_with : Written → Data → List ℕ
+text_with w d = text_in w ++ (comma_if (is_after_value w) ++ compact_text d)
+
+-- the tokens of a time
+abbrev pub time_tokens : ℤ × ℤ → List Token
+time_tokens t =
+    begin_object ∷ key (codes "$reql_type$") ∷ string (codes "TIME") ∷ key (codes "epoch_time") ∷ number (signed_decimal t.0)
+    ∷ key (codes "timezone") ∷ string (zone_text t.1) ∷ end_object ∷ []
+
+-- the tokens before the bytes of a binary
+abbrev pub binary_opening : List Token
+binary_opening = begin_object ∷ key (codes "$reql_type$") ∷ string (codes "BINARY") ∷ key (codes "data") ∷ []

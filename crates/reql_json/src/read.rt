@@ -1,24 +1,44 @@
 // From a JSON value to a document.
-ghost use Rattle.std.specs.Prelude.{◌≡◌, IfOk};
-ghost use Rattle.serde_json.specs.Find.{as_integer};
-ghost use Rattle.serde_json.specs.View.{view, number_view, items_view, members_view};
+ghost use Rattle.std.specs.Prelude.{◌≡◌, is_some, IfOk};
+ghost use Rattle.serde_json.specs.Data as json;
+ghost use Rattle.serde_json.specs.Find.{get_member};
+ghost use Rattle.serde_json.specs.View.{view, items_view, members_view};
 ghost use Rattle.reql_datum.specs.View.{plain};
-ghost use Rattle.reql_json.specs.Reading.{Reads, document, whole, documents, members};
+ghost use Rattle.reql_json.specs.Reading.{Reads, document, documents, reserved, members};
 
 use crate::fault::JsonFault;
-use reql_datum::{Datum, Fields, Items, Memory, Name, Whole};
-use serde_json::{Map, Number, Value};
+use crate::literal::{literal, whole};
+use reql_datum::{Datum, Fields, Items, Memory, Name};
+use serde_json::{Map, Value};
 use std::alloc::Global;
 
 /// The document that a JSON value stands for.
 ///
-/// The fault is the first in the order of reading: an object's own name `$reql_type$` before its
-/// members, members by name, items in order. Documents that follow one another in a list share the
-/// names and texts that are equal at like places.
+/// An object with the name `$reql_type$` is a binary, `{"$reql_type$":"BINARY","data":D}` with D in
+/// base64 (RFC 4648, section 4; line ends in it are passed over), or a time,
+/// `{"$reql_type$":"TIME","epoch_time":N,"timezone":Z}` with Z as `+HH:MM`, `-HH:MM` or `Z` (RFC
+/// 3339, section 5.6), or it is refused.
+///
+/// The fault is the first in the order of reading: members by name, items in order. Documents that
+/// follow one another in a list share the names and texts that are equal at like places.
 pub fn from_value(alloc: Global, v: &Value) -> Result<Datum, JsonFault>
     ensures { Reads plain result (document (view v.now)) }
 {
     read(alloc, v, None)
+}
+
+/// The document that an object with these members stands for, as `from_value` reads it.
+pub fn from_members(alloc: Global, members: &Map<String, Value>) -> Result<Datum, JsonFault>
+    ensures { Reads plain result (document (json.object (members_view members.now.entries))) }
+{
+    keyed(alloc, members, None)
+}
+
+/// Whether an object has the name `$reql_type$`, found in one look-up.
+pub fn has_reserved(held: &Map<String, Value>) -> bool
+    ensures { result ≡ is_some (get_member reserved (members_view held.now.entries)) }
+{
+    held.contains_key("$reql_type$")
 }
 
 // `like` is a document that was read before and may have the same names and texts.
@@ -32,23 +52,18 @@ fn read(alloc: Global, v: &Value, like: Option<&Datum>) -> Result<Datum, JsonFau
         Value::Number(n) => Ok(Datum::Num(whole(n)?)),
         Value::String(text) => Ok(Datum::Text(name_of(alloc, text.as_str(), text_like(like))?)),
         Value::Array(items) => Ok(Datum::List(list(alloc, items, like)?)),
-        Value::Object(members) => {
-            if v.get("$reql_type$").is_some() {
-                return Err(JsonFault::Reserved);
-            }
-            Ok(Datum::Obj(object(alloc, members, like)?))
-        }
+        Value::Object(members) => keyed(alloc, members, like),
     }
 }
 
-fn whole(n: &Number) -> Result<Whole, JsonFault>
-    ensures { Reads (λ z. z) result (whole (as_integer (number_view n.now))) }
+#[cycle(document)]
+fn keyed(alloc: Global, held: &Map<String, Value>, like: Option<&Datum>) -> Result<Datum, JsonFault>
+    ensures { Reads plain result (document (json.object (members_view held.now.entries))) }
 {
-    let z = n.as_i128().ok_or(JsonFault::Fraction)?;
-    let Ok(z) = i64::try_from(z) else {
-        return Err(JsonFault::OverRange);
-    };
-    Whole::new(z).ok_or(JsonFault::OverRange)
+    if has_reserved(held) {
+        return literal(alloc, held);
+    }
+    Ok(Datum::Obj(object(alloc, held, like)?))
 }
 
 fn text_like(like: Option<&Datum>) -> Option<&Name> {
