@@ -1,0 +1,15 @@
+//! The bodies of answers, written with no JSON value made for them.
+#![tactic(auto)]
+
+mod error;
+mod fixed;
+mod refusals;
+mod results;
+mod stamp;
+mod writing;
+
+pub use error::ErrorType;
+pub use fixed::{INTERNAL, internal};
+pub use refusals::{fault, refusal};
+pub use results::atom;
+pub use stamp::Stamp;
