@@ -1,0 +1,14 @@
+pub mod Tall
+pub mod Pairs
+pub mod Chunk
+pub mod Side
+pub mod SideFalls
+pub mod Next
+pub mod Seen
+pub mod Way
+pub mod Halves
+pub mod Turn
+pub mod Range
+pub mod Ends
+pub mod Spent
+pub mod Gather
