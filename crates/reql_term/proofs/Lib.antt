@@ -1,2 +1,4 @@
 pub mod Distinct
 pub mod Numbers
+pub mod Rows
+pub mod Sets

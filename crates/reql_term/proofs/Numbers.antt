@@ -1,110 +1,104 @@
--- The numbers of the operators, computed over the whole table.
-use Rattle.std.proofs.Common.{◌≡◌, ℕ, zero, suc, ◌<◌, ◌≤◌, List, [], ◌∷◌, length, map, take, get_or, Some, Bool, true, false, ◌&&◌, if◌then◌else◌, nat_eq, nat_le, nat_lt, refl, sym, ap, subst, ◌∙◌, arith, inl, inr}
+-- The numbers of the operators, computed over all of them.
+use Rattle.std.proofs.Common.{◌≡◌, ℕ, zero, suc, ◌+◌, ◌≤◌, ◌<◌, List, [], ◌∷◌, map, get_or, Option, Some, None, Bool, true, false, ◌&&◌, if◌then◌else◌, nat_eq, nat_lt, refl, sym, ap, subst, ◌∙◌, arith}
 use Rattle.std.proofs.lemmas.Bool.Decides.{nat_tests}
-use denote.Enum.Declared.{rowss}
-use denote.Enum.Enum.{Sum, tag}
-use denote.RattleType.{RattleType}
-use Rattle.reql_term.specs.contracts.op.Op.{the_type}
 use Rattle.reql_term.specs.declared.op.Op.{Op}
-use Rattle.reql_term.specs.declared.table.Row.{Row}
-use Rattle.reql_term.specs.declared.table.TheConstants.{TABLE, SERVED}
+use Rattle.reql_term.specs.declared.op.Op.TheVariants as op
+use Rattle.reql_term.specs.declared.by_number.TheConstants.{BY_NUMBER}
 use Rattle.reql_term.specs.OpCode.{op_back}
-use Rattle.reql_term.specs.OpLaws.{IsServed}
-use Rattle.reql_term.specs.Table.{place, no_row, find_op, op_of, number_of}
+use Rattle.reql_term.specs.Table.{place, every_op, find_op, op_of, number_of}
 
--- each row that is served is found by its number
-found : map (λ r. op_of r.number) (take SERVED TABLE) ≡ map (λ r. Some r.op) (take SERVED TABLE)
+-- two functions that give the same over a list give the same at each place
+at_place : {X : Type 0} (f g : Op → X) (ops : List Op) (i : ℕ) (d : Op) → f d ≡ g d → map f ops ≡ map g ops → f (get_or ops i d) ≡ g (get_or ops i d)
+at_place f g [] i d beyond same = beyond
+at_place f g (o ∷ os) zero d beyond same = cc
+at_place f g (o ∷ os) (suc i) d beyond same = at_place f g os i d beyond (let e : map f os ≡ map g os = cc in e)
+
+at_op : {X : Type 0} (f g : Op → X) (o : Op) → f op.Minval ≡ g op.Minval → map f every_op ≡ map g every_op → f o ≡ g o
+at_op f g o beyond same = subst (λ o. f o ≡ g o) (op_back o) (at_place f g every_op (place o) op.Minval beyond same)
+
+found : map (λ o. op_of (number_of o)) every_op ≡ map Some every_op
 found = refl
 
-at_place : {X : Type 0} (f g : Row → X) (rows : List Row) (i : ℕ) (n : ℕ) → i < n → n ≤ length rows → map f (take n rows) ≡ map g (take n rows) → f (get_or rows i no_row) ≡ g (get_or rows i no_row)
-at_place f g rows i zero below within same = absurd (omega arith)
-at_place f g [] i (suc n) below within same = absurd (omega arith)
-at_place f g (r ∷ rs) zero (suc n) below within same = cc
-at_place f g (r ∷ rs) (suc i) (suc n) below within same = at_place f g rs i n (omega arith) (omega arith) (let e : map f (take n rs) ≡ map g (take n rs) = cc in e)
+pub numbered : (o : Op) → op_of (number_of o) ≡ Some o
+numbered o = at_op (λ o. op_of (number_of o)) Some o refl found
 
-pub numbered : (op : Op) → place op < SERVED → op_of (number_of op) ≡ Some op
-numbered op served = at_place (λ r. op_of r.number) (λ r. Some r.op) TABLE (place op) SERVED served (omega arith) found ∙ ap Some (op_back op)
+-- an operator is found by its own number
+same_number : (a b : ℕ) → nat_eq a b ≡ true → a ≡ b
+same_number a b h = grind (arith, nat_tests)
 
--- and an operator has the number by which it is found
-own_numbers : List Row → Bool
-own_numbers [] = true
-own_numbers (r ∷ rs) = nat_eq (number_of r.op) r.number && own_numbers rs
+here_or_later : (is : Bool) (o : Op) (os : List Op) (n : ℕ) (op : Op) → nat_eq (number_of o) n ≡ is → (find_op os n ≡ Some op → number_of op ≡ n)
+    → (if is then Some o else find_op os n) ≡ Some op → number_of op ≡ n
+here_or_later true o os n op here later is = let e : o ≡ op = cc in subst (λ o. number_of o ≡ n) e (same_number (number_of o) n here)
+here_or_later false o os n op here later is = later is
 
-are_own : own_numbers (take SERVED TABLE) ≡ true
-unfolding own_numbers
-are_own = refl
+named_in : (os : List Op) (n : ℕ) (op : Op) → find_op os n ≡ Some op → number_of op ≡ n
+named_in [] n op is = cc
+named_in (o ∷ os) n op is = here_or_later (nat_eq (number_of o) n) o os n op refl (named_in os n op) is
+
+pub named : (n : ℕ) (op : Op) → op_of n ≡ Some op → number_of op ≡ n
+named n op is = named_in every_op n op is
+
+-- every number is above 0 and below 187
+bounded : Op → Bool
+bounded o = nat_lt 0 (number_of o) && nat_lt (number_of o) 187
+
+all_bounded : map bounded every_op ≡ map (λ o. true) every_op
+unfolding bounded
+all_bounded = refl
 
 both : (a b : Bool) → (a && b) ≡ true → (a ≡ true) × (b ≡ true)
 both true true h = (refl, refl)
 both true false h = cc
 both false b h = cc
 
-same_number : (a b c : ℕ) → nat_eq a b ≡ true → nat_eq b c ≡ true → a ≡ c
-same_number a b c h j = grind (arith, nat_tests)
+is_bounded : (o : Op) → bounded o ≡ true
+unfolding bounded
+is_bounded o = at_op bounded (λ o. true) o refl all_bounded
 
-here_or_later : (is : Bool) (r : Row) (rs : List Row) (n : ℕ) (op : Op) → nat_eq r.number n ≡ is → nat_eq (number_of r.op) r.number ≡ true → (find_op rs n ≡ Some op → number_of op ≡ n)
-    → (if is then Some r.op else find_op rs n) ≡ Some op → number_of op ≡ n
-here_or_later true r rs n op here own later is = let e : r.op ≡ op = cc in ap number_of (sym e) ∙ same_number _ _ n own here
-here_or_later false r rs n op here own later is = later is
-
-named_in : (rows : List Row) (n : ℕ) (op : Op) → own_numbers rows ≡ true → find_op rows n ≡ Some op → number_of op ≡ n
-unfolding own_numbers
-named_in [] n op own is = cc
-named_in (r ∷ rs) n op own is = let h = both _ _ own in here_or_later (nat_eq r.number n) r rs n op refl h.0 (named_in rs n op h.1) is
-
-pub named : (n : ℕ) (op : Op) → op_of n ≡ Some op → number_of op ≡ n
-named n op is = named_in (take SERVED TABLE) n op are_own is
-
--- every number is above 0 and below 256
-are_bytes : List Row → Bool
-are_bytes [] = true
-are_bytes (r ∷ rs) = (nat_lt 0 r.number && nat_le r.number 255) && are_bytes rs
-
-all_bytes : are_bytes TABLE ≡ true
-unfolding are_bytes
-all_bytes = refl
-
-byte_at : (rows : List Row) (i : ℕ) → i < length rows → are_bytes rows ≡ true → (nat_lt 0 (get_or rows i no_row).number ≡ true) × (nat_le (get_or rows i no_row).number 255 ≡ true)
-unfolding are_bytes
-byte_at [] i below all = absurd (omega arith)
-byte_at (r ∷ rs) zero below all = both _ _ (both _ _ all).0
-byte_at (r ∷ rs) (suc i) below all = byte_at rs i (omega arith) (both _ _ all).1
-
--- a place is one of the table's
-tag_within : (Tss : List (List RattleType)) (a : Sum Tss) → tag Tss a < length Tss
-tag_within [] a = absurd a
-tag_within (Ts ∷ Tss) (inl x) = omega arith
-tag_within (Ts ∷ Tss) (inr y) = omega (arith, tag_within Tss y)
-
-place_within : (op : Op) → place op < length TABLE
-place_within op = tag_within (rowss the_type.parts) (the_type.to op)
-
-in_bytes : (n : ℕ) → nat_lt 0 n ≡ true → nat_le n 255 ≡ true → (1 ≤ n) × (n ≤ 255)
+in_bytes : (n : ℕ) → nat_lt 0 n ≡ true → nat_lt n 187 ≡ true → (1 ≤ n) × (n ≤ 255)
 in_bytes n low high = (grind (arith, nat_tests), grind (arith, nat_tests))
 
-pub byte : (op : Op) → (1 ≤ number_of op) × (number_of op ≤ 255)
-byte op = let h = byte_at TABLE (place op) (place_within op) all_bytes in in_bytes (number_of op) h.0 h.1
+pub byte : (o : Op) → (1 ≤ number_of o) × (number_of o ≤ 255)
+unfolding bounded
+byte o = let h = both _ _ (is_bounded o) in in_bytes (number_of o) h.0 h.1
 
--- an operator that a number names can be read
-all_served : List Row → Bool
-all_served [] = true
-all_served (r ∷ rs) = nat_lt (place r.op) SERVED && all_served rs
+-- ---- the index by number
 
-are_served : all_served (take SERVED TABLE) ≡ true
-unfolding all_served
-are_served = refl
+ops_from : ℕ → ℕ → List (Option Op)
+ops_from n zero = []
+ops_from n (suc k) = op_of n ∷ ops_from (suc n) k
 
-lt_of : (a b : ℕ) → nat_lt a b ≡ true → a < b
-lt_of a b h = grind (arith, nat_tests)
+all_indexed : BY_NUMBER ≡ ops_from 0 187
+unfolding ops_from
+all_indexed = refl
 
-served_here : (b : Bool) (r : Row) (rs : List Row) (n : ℕ) (op : Op) → nat_lt (place r.op) SERVED ≡ true → (find_op rs n ≡ Some op → IsServed op) → (if b then Some r.op else find_op rs n) ≡ Some op → IsServed op
-served_here true r rs n op here later is = let e : r.op ≡ op = cc in subst IsServed e (lt_of (place r.op) SERVED here)
-served_here false r rs n op here later is = later is
+within : (n k i : ℕ) → i < k → get_or (ops_from n k) i None ≡ op_of (n + i)
+unfolding ops_from
+within n zero i below = absurd (omega arith)
+within n (suc k) zero below = ap op_of (let e : n ≡ n + 0 = omega arith in e)
+within n (suc k) (suc i) below = within (suc n) k i (omega arith) ∙ ap op_of (let e : suc n + i ≡ n + suc i = omega arith in e)
 
-served_in : (rows : List Row) (n : ℕ) (op : Op) → all_served rows ≡ true → find_op rows n ≡ Some op → IsServed op
-unfolding all_served
-served_in [] n op all is = cc
-served_in (r ∷ rs) n op all is = let h = both _ _ all in served_here (nat_eq r.number n) r rs n op h.0 (served_in rs n op h.1) is
+past : (n k i : ℕ) → k ≤ i → get_or (ops_from n k) i None ≡ None
+unfolding ops_from
+past n zero i above = refl
+past n (suc k) zero above = absurd (omega arith)
+past n (suc k) (suc i) above = past (suc n) k i (omega arith)
 
-pub served : (n : ℕ) (op : Op) → op_of n ≡ Some op → IsServed op
-served n op is = served_in (take SERVED TABLE) n op are_served is
+unnumbered_here : (is : Bool) (o : Op) (os : List Op) (n : ℕ) → nat_eq (number_of o) n ≡ is → nat_lt (number_of o) 187 ≡ true → 187 ≤ n → find_op os n ≡ None → (if is then Some o else find_op os n) ≡ None
+unnumbered_here true o os n here low above later = absurd (let e : number_of o ≡ n = same_number (number_of o) n here in let b : nat_lt n 187 ≡ true = rw (← e) low in grind (arith, nat_tests))
+unnumbered_here false o os n here low above later = later
+
+unnumbered : (os : List Op) (n : ℕ) → 187 ≤ n → find_op os n ≡ None
+unfolding bounded
+unnumbered [] n above = refl
+unnumbered (o ∷ os) n above = unnumbered_here (nat_eq (number_of o) n) o os n refl (both _ _ (is_bounded o)).1 above (unnumbered os n above)
+
+indexed_by : (n : ℕ) (is : Bool) → nat_lt n 187 ≡ is → get_or (ops_from 0 187) n None ≡ op_of n
+indexed_by n true low = within 0 187 n (grind (arith, nat_tests)) ∙ ap op_of (let e : 0 + n ≡ n = omega arith in e)
+indexed_by n false high =
+    let above : 187 ≤ n = grind (arith, nat_tests) in
+    past 0 187 n above ∙ sym (unnumbered every_op n above)
+
+-- what the index has for a number
+pub indexed : (n : ℕ) → get_or BY_NUMBER n None ≡ op_of n
+indexed n = ap (λ os. get_or os n None) all_indexed ∙ indexed_by n (nat_lt n 187) refl

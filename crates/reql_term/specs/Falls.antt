@@ -4,7 +4,7 @@ use Rattle.std.specs.declared.sync.Arc.{Arc}
 use Rattle.std.specs.declared.alloc.Global.{Global}
 use Rattle.std.proofs.Common.{arith}
 use denote.Param.Weighed.{most}
-use Rattle.reql_datum.specs.Shared.{held_items}
+use Rattle.reql_memory.specs.CopyOnWrite.{held_items}
 use Rattle.reql_term.specs.Form.{weight, list_weight, fields_weight}
 use Rattle.reql_term.specs.View.{form_of, field_of}
 use Rattle.reql_term.specs.declared.term.Term.{Term}

@@ -1,4 +1,5 @@
 pub mod Table
+pub mod Rows
 pub mod OpCode
 pub mod OpLaws
 pub mod Params

@@ -1,12 +1,11 @@
--- An operator from its place in the table: each row of the table is that of the operator in its place.
+-- An operator from its place among all of them.
 use Rattle.std.specs.Prelude.{◌≡◌, refl, ℕ, get_or}
 use Rattle.reql_term.specs.declared.op.Op.{Op}
 use Rattle.reql_term.specs.declared.op.Op.TheVariants as op
-use Rattle.reql_term.specs.declared.table.TheConstants.{TABLE}
-use Rattle.reql_term.specs.Table.{place, no_row}
+use Rattle.reql_term.specs.Table.{place, every_op}
 
 abbrev pub op_at : ℕ → Op
-op_at n = (get_or TABLE n no_row).op
+op_at n = get_or every_op n op.Minval
 
 pub op_back : (o : Op) → op_at (place o) ≡ o
 op_back op.MakeArray = refl

@@ -1,11 +1,14 @@
 //! Terms of ReQL: what they are made of, the table of their operators, and tables as terms read them.
 #![tactic(auto)]
 
-mod edit;
+mod by_number;
+mod entry;
 mod laws;
 mod limits;
 mod op;
 mod params;
+mod range;
+mod role;
 mod table;
 mod term;
 mod view;
@@ -14,5 +17,7 @@ pub use laws::op_laws;
 pub use limits::{MAX_DEPTH, MAX_RANGE};
 pub use op::Op;
 pub use params::Params;
+pub use range::{Bound, Range};
+pub use role::{Naming, Task, Way};
 pub use term::{Body, Term, TermFields, Terms};
-pub use view::{IndexDef, TableView, ViewFault};
+pub use view::{Entries, IndexDef, TableView, ViewFault};

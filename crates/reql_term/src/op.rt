@@ -2,8 +2,8 @@
 
 /// An operator of ReQL, by its name in `ql2.proto`.
 ///
-/// Those whose terms have a variant of `Term` of their own (numbers 2, 3, 10, 13 and 69) are among
-/// them for their numbers, counts and options.
+/// MakeArray, MakeObj, Var, ImplicitVar and Func are among them for their numbers, counts and
+/// options; their terms are variants of `Term` of their own.
 #[derive(Clone, Copy)]
 pub enum Op {
     MakeArray,

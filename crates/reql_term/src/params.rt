@@ -2,8 +2,8 @@
 ghost use Rattle.std.specs.Prelude.{◌≡◌, [], ◌∷◌, ◌++◌, length, is_ok, IfOk, IfErr, OnSome, MatchOption, drop, ◌+◌, ◌^◌, ◌<◌, option_map, slice_get, nat_eq, if◌then◌else◌};
 ghost use Rattle.reql_term.specs.Params.{IsNew, AreDistinct};
 
-use reql_datum::shared::{copied, push_on, roomy, shown};
 use reql_datum::{Memory, Refused};
+use reql_memory::copy_on_write::{copied, push_on, roomy, shown};
 use std::alloc::Global;
 use std::marker::Model;
 use std::sync::Arc;
@@ -17,7 +17,7 @@ pub struct Params {
 
 impl Model for Params {
     ghost use Rattle.std.specs.Prelude.{List, ℕ};
-    ghost use Rattle.reql_datum.specs.Shared.{held_items};
+    ghost use Rattle.reql_memory.specs.CopyOnWrite.{held_items};
     ghost use Rattle.reql_term.specs.Params.{AreDistinct};
 
     ghost Value = { List ℕ };

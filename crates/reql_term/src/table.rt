@@ -1,8 +1,11 @@
-// The table of the operators: what each takes.
-ghost use Rattle.std.specs.Prelude.{◌≡◌, map};
-ghost use Rattle.reql_term.specs.Table.{row_of, find_op, is_among, has_option, op_of, number_of, least_of, most_of, at_most, has_parity, fits, takes};
+// The table of the operators: what each takes, and what tells it apart.
+ghost use Rattle.std.specs.Prelude.{◌≡◌, ◌<◌, length, map, get_or, slice_get, Some, None};
+ghost use Rattle.reql_term.specs.Table.{line_of, is_among, has_option, op_of, number_of, least_of, most_of, at_most, has_parity, fits, takes, way_of, naming_of, task_of};
+ghost use Rattle.reql_term.specs.Rows.{names_of, line_in};
 
+use crate::by_number::BY_NUMBER;
 use crate::op::Op;
+use crate::role::{Naming, Task, Way};
 
 /// What a count of arguments has to be beside its bounds.
 #[derive(Clone, Copy)]
@@ -62,7 +65,8 @@ pub(crate) const CHANGES: [&str; 6] = [
     "include_types",
 ];
 
-/// An operator with its number on the wire, how many arguments it takes, and which optional ones.
+/// An operator with its number on the wire, how many arguments it takes, which optional ones, how it
+/// takes them, what it names and what it asks for.
 #[derive(Clone, Copy)]
 pub(crate) struct Row {
     pub op: Op,
@@ -71,10 +75,13 @@ pub(crate) struct Row {
     pub most: Option<u32>,
     pub parity: Parity,
     pub options: Options,
+    pub way: Way,
+    pub naming: Naming,
+    pub task: Task,
 }
 
-macro_rules! takes {
-    ($op:ident, $number:literal, $least:literal, $most:expr, $parity:ident, $options:ident) => {
+macro_rules! row {
+    ($op:ident => $number:literal, $least:literal, $most:expr, $parity:ident, $options:ident, $way:ident, $naming:ident, $task:ident) => {
         Row {
             op: Op::$op,
             number: $number,
@@ -82,141 +89,148 @@ macro_rules! takes {
             most: $most,
             parity: Parity::$parity,
             options: Options::$options,
+            way: Way::$way,
+            naming: Naming::$naming,
+            task: Task::$task,
         }
     };
 }
 
-/// How many rows, from the first, have terms that can be read.
-pub(crate) const SERVED: usize = 104;
-
-/// A row an operator, in the order of `Op`: its number, the least and the most arguments, and which
-/// options.
+/// A row an operator, in the order of `Op`: its number, the least and the most arguments, whether
+/// their count has to be odd or even, which options, its way, what it names, and its task.
 pub(crate) const TABLE: [Row; 107] = [
-    takes!(MakeArray, 2, 0, None, Any, None),
-    takes!(MakeObj, 3, 0, Some(0), Any, Any),
-    takes!(Var, 10, 1, Some(1), Any, None),
-    takes!(Error, 12, 0, Some(1), Any, None),
-    takes!(ImplicitVar, 13, 0, Some(0), Any, None),
-    takes!(Eq, 17, 1, None, Any, None),
-    takes!(Ne, 18, 1, None, Any, None),
-    takes!(Lt, 19, 1, None, Any, None),
-    takes!(Le, 20, 1, None, Any, None),
-    takes!(Gt, 21, 1, None, Any, None),
-    takes!(Ge, 22, 1, None, Any, None),
-    takes!(Not, 23, 1, Some(1), Any, None),
-    takes!(Add, 24, 1, None, Any, None),
-    takes!(Sub, 25, 1, None, Any, None),
-    takes!(Mul, 26, 1, None, Any, None),
-    takes!(Div, 27, 1, None, Any, None),
-    takes!(Mod, 28, 2, Some(2), Any, None),
-    takes!(CoerceTo, 51, 2, Some(2), Any, None),
-    takes!(TypeOf, 52, 1, Some(1), Any, None),
-    takes!(Funcall, 64, 1, None, Any, None),
-    takes!(Branch, 65, 3, None, Odd, None),
-    takes!(Or, 66, 0, None, Any, None),
-    takes!(And, 67, 0, None, Any, None),
-    takes!(Func, 69, 2, Some(2), Any, None),
-    takes!(Default, 92, 2, Some(2), Any, None),
-    takes!(Literal, 137, 0, Some(1), Any, None),
-    takes!(Minval, 180, 0, Some(0), Any, None),
-    takes!(Maxval, 181, 0, Some(0), Any, None),
-    takes!(Append, 29, 2, Some(2), Any, None),
-    takes!(Prepend, 80, 2, Some(2), Any, None),
-    takes!(Slice, 30, 2, Some(3), Any, Bounds),
-    takes!(GetField, 31, 2, Some(2), Any, None),
-    takes!(Bracket, 170, 2, Some(2), Any, None),
-    takes!(HasFields, 32, 2, None, Any, None),
-    takes!(Pluck, 33, 2, None, Any, None),
-    takes!(Without, 34, 2, None, Any, None),
-    takes!(WithFields, 96, 2, None, Any, None),
-    takes!(Merge, 35, 2, None, Any, None),
-    takes!(InsertAt, 82, 3, Some(3), Any, None),
-    takes!(DeleteAt, 83, 2, Some(3), Any, None),
-    takes!(ChangeAt, 84, 3, Some(3), Any, None),
-    takes!(SpliceAt, 85, 3, Some(3), Any, None),
-    takes!(SetInsert, 88, 2, Some(2), Any, None),
-    takes!(SetUnion, 90, 2, Some(2), Any, None),
-    takes!(SetIntersection, 89, 2, Some(2), Any, None),
-    takes!(SetDifference, 91, 2, Some(2), Any, None),
-    takes!(Difference, 95, 2, Some(2), Any, None),
-    takes!(Keys, 94, 1, Some(1), Any, None),
-    takes!(Values, 186, 1, Some(1), Any, None),
-    takes!(Object, 143, 0, None, Even, None),
-    takes!(Reduce, 37, 2, Some(2), Any, None),
-    takes!(Map, 38, 2, Some(2), Any, None),
-    takes!(Filter, 39, 2, Some(2), Any, Default),
-    takes!(ConcatMap, 40, 2, Some(2), Any, None),
-    takes!(OrderBy, 41, 1, None, Any, Index),
-    takes!(Asc, 73, 1, Some(1), Any, None),
-    takes!(Desc, 74, 1, Some(1), Any, None),
-    takes!(Distinct, 42, 1, Some(1), Any, Index),
-    takes!(Count, 43, 1, Some(2), Any, None),
-    takes!(Union, 44, 1, None, Any, Interleave),
-    takes!(Nth, 45, 2, Some(2), Any, None),
-    takes!(Skip, 70, 2, Some(2), Any, None),
-    takes!(Limit, 71, 2, Some(2), Any, None),
-    takes!(IsEmpty, 86, 1, Some(1), Any, None),
-    takes!(OffsetsOf, 87, 2, Some(2), Any, None),
-    takes!(Contains, 93, 2, None, Any, None),
-    takes!(Range, 173, 1, Some(2), Any, None),
-    takes!(InnerJoin, 48, 3, Some(3), Any, None),
-    takes!(OuterJoin, 49, 3, Some(3), Any, None),
-    takes!(EqJoin, 50, 3, Some(3), Any, Index),
-    takes!(Zip, 72, 1, Some(1), Any, None),
-    takes!(Group, 144, 1, None, Any, Index),
-    takes!(Ungroup, 150, 1, Some(1), Any, None),
-    takes!(Sum, 145, 1, Some(2), Any, None),
-    takes!(Avg, 146, 1, Some(2), Any, None),
-    takes!(Min, 147, 1, Some(2), Any, None),
-    takes!(Max, 148, 1, Some(2), Any, None),
-    takes!(Db, 14, 1, Some(1), Any, None),
-    takes!(Table, 15, 1, Some(2), Any, Read),
-    takes!(Get, 16, 2, Some(2), Any, None),
-    takes!(GetAll, 78, 1, None, Any, Index),
-    takes!(Between, 182, 3, Some(3), Any, IndexBounds),
-    takes!(Insert, 56, 2, Some(2), Any, Insert),
-    takes!(Update, 53, 2, Some(2), Any, Write),
-    takes!(Replace, 55, 2, Some(2), Any, Write),
-    takes!(Delete, 54, 1, Some(1), Any, Write),
-    takes!(ForEach, 68, 2, Some(2), Any, None),
-    takes!(DbCreate, 57, 1, Some(1), Any, None),
-    takes!(DbDrop, 58, 1, Some(1), Any, None),
-    takes!(DbList, 59, 0, Some(0), Any, None),
-    takes!(TableCreate, 60, 1, Some(2), Any, Create),
-    takes!(TableDrop, 61, 1, Some(2), Any, None),
-    takes!(TableList, 62, 0, Some(1), Any, None),
-    takes!(IndexCreate, 75, 2, Some(3), Any, Multi),
-    takes!(IndexDrop, 76, 2, Some(2), Any, None),
-    takes!(IndexRename, 156, 3, Some(3), Any, Overwrite),
-    takes!(IndexList, 77, 1, Some(1), Any, None),
-    takes!(IndexStatus, 139, 1, None, Any, None),
-    takes!(IndexWait, 140, 1, None, Any, None),
-    takes!(Info, 79, 1, Some(1), Any, None),
-    takes!(Config, 174, 1, Some(1), Any, None),
-    takes!(Status, 175, 1, Some(1), Any, None),
-    takes!(Sync, 138, 1, Some(1), Any, None),
-    takes!(Changes, 152, 1, Some(1), Any, Changes),
-    takes!(EpochTime, 101, 1, Some(1), Any, None),
-    takes!(ToEpochTime, 102, 1, Some(1), Any, None),
-    takes!(Now, 103, 0, Some(0), Any, None),
+    row!(MakeArray => 2, 0, None, Any, None, Strict, Nothing, Value),
+    row!(MakeObj => 3, 0, Some(0), Any, Any, Strict, Nothing, Value),
+    row!(Var => 10, 1, Some(1), Any, None, Strict, Nothing, Value),
+    row!(Error => 12, 0, Some(1), Any, None, Raising, Nothing, Value),
+    row!(ImplicitVar => 13, 0, Some(0), Any, None, Strict, Nothing, Value),
+    row!(Eq => 17, 1, None, Any, None, Strict, Nothing, Value),
+    row!(Ne => 18, 1, None, Any, None, Strict, Nothing, Value),
+    row!(Lt => 19, 1, None, Any, None, Strict, Nothing, Value),
+    row!(Le => 20, 1, None, Any, None, Strict, Nothing, Value),
+    row!(Gt => 21, 1, None, Any, None, Strict, Nothing, Value),
+    row!(Ge => 22, 1, None, Any, None, Strict, Nothing, Value),
+    row!(Not => 23, 1, Some(1), Any, None, Strict, Nothing, Value),
+    row!(Add => 24, 1, None, Any, None, Strict, Nothing, Value),
+    row!(Sub => 25, 1, None, Any, None, Strict, Nothing, Value),
+    row!(Mul => 26, 1, None, Any, None, Strict, Nothing, Value),
+    row!(Div => 27, 1, None, Any, None, Strict, Nothing, Value),
+    row!(Mod => 28, 2, Some(2), Any, None, Strict, Nothing, Value),
+    row!(CoerceTo => 51, 2, Some(2), Any, None, Strict, Nothing, Value),
+    row!(TypeOf => 52, 1, Some(1), Any, None, Strict, Nothing, Value),
+    row!(Funcall => 64, 1, None, Any, None, Strict, Nothing, Value),
+    row!(Branch => 65, 3, None, Odd, None, Branching, Nothing, Branch),
+    row!(Or => 66, 0, None, Any, None, UntilTrue, Nothing, Value),
+    row!(And => 67, 0, None, Any, None, UntilFalse, Nothing, Value),
+    row!(Func => 69, 2, Some(2), Any, None, Strict, Nothing, Value),
+    row!(Default => 92, 2, Some(2), Any, None, Defaulting, Nothing, Value),
+    row!(Literal => 137, 0, Some(1), Any, None, Strict, Nothing, Value),
+    row!(Minval => 180, 0, Some(0), Any, None, Strict, Nothing, Value),
+    row!(Maxval => 181, 0, Some(0), Any, None, Strict, Nothing, Value),
+    row!(Append => 29, 2, Some(2), Any, None, Strict, Nothing, Value),
+    row!(Prepend => 80, 2, Some(2), Any, None, Strict, Nothing, Value),
+    row!(Slice => 30, 2, Some(3), Any, Bounds, Strict, Nothing, Value),
+    row!(GetField => 31, 2, Some(2), Any, None, Strict, Nothing, Value),
+    row!(Bracket => 170, 2, Some(2), Any, None, Strict, Nothing, Value),
+    row!(HasFields => 32, 2, None, Any, None, Strict, Nothing, Value),
+    row!(Pluck => 33, 2, None, Any, None, Strict, Nothing, Value),
+    row!(Without => 34, 2, None, Any, None, Strict, Nothing, Value),
+    row!(WithFields => 96, 2, None, Any, None, Strict, Nothing, Value),
+    row!(Merge => 35, 2, None, Any, None, Strict, Nothing, Value),
+    row!(InsertAt => 82, 3, Some(3), Any, None, Strict, Nothing, Value),
+    row!(DeleteAt => 83, 2, Some(3), Any, None, Strict, Nothing, Value),
+    row!(ChangeAt => 84, 3, Some(3), Any, None, Strict, Nothing, Value),
+    row!(SpliceAt => 85, 3, Some(3), Any, None, Strict, Nothing, Value),
+    row!(SetInsert => 88, 2, Some(2), Any, None, Strict, Nothing, Value),
+    row!(SetUnion => 90, 2, Some(2), Any, None, Strict, Nothing, Value),
+    row!(SetIntersection => 89, 2, Some(2), Any, None, Strict, Nothing, Value),
+    row!(SetDifference => 91, 2, Some(2), Any, None, Strict, Nothing, Value),
+    row!(Difference => 95, 2, Some(2), Any, None, Strict, Nothing, Value),
+    row!(Keys => 94, 1, Some(1), Any, None, Strict, Nothing, Value),
+    row!(Values => 186, 1, Some(1), Any, None, Strict, Nothing, Value),
+    row!(Object => 143, 0, None, Even, None, Strict, Nothing, Value),
+    row!(Reduce => 37, 2, Some(2), Any, None, Strict, Nothing, Value),
+    row!(Map => 38, 2, Some(2), Any, None, Strict, Nothing, Value),
+    row!(Filter => 39, 2, Some(2), Any, Default, Filtering, Nothing, Value),
+    row!(ConcatMap => 40, 2, Some(2), Any, None, Strict, Nothing, Value),
+    row!(OrderBy => 41, 1, None, Any, Index, Sorting, Nothing, Value),
+    row!(Asc => 73, 1, Some(1), Any, None, Rising, Nothing, Value),
+    row!(Desc => 74, 1, Some(1), Any, None, Falling, Nothing, Value),
+    row!(Distinct => 42, 1, Some(1), Any, Index, Strict, Nothing, Value),
+    row!(Count => 43, 1, Some(2), Any, None, Strict, Nothing, Value),
+    row!(Union => 44, 1, None, Any, Interleave, Strict, Nothing, Value),
+    row!(Nth => 45, 2, Some(2), Any, None, Strict, Nothing, Value),
+    row!(Skip => 70, 2, Some(2), Any, None, Strict, Nothing, Value),
+    row!(Limit => 71, 2, Some(2), Any, None, Strict, Nothing, Value),
+    row!(IsEmpty => 86, 1, Some(1), Any, None, Strict, Nothing, Value),
+    row!(OffsetsOf => 87, 2, Some(2), Any, None, Strict, Nothing, Value),
+    row!(Contains => 93, 2, None, Any, None, Strict, Nothing, Value),
+    row!(Range => 173, 1, Some(2), Any, None, Strict, Nothing, Value),
+    row!(InnerJoin => 48, 3, Some(3), Any, None, Strict, Nothing, Value),
+    row!(OuterJoin => 49, 3, Some(3), Any, None, Strict, Nothing, Value),
+    row!(EqJoin => 50, 3, Some(3), Any, Index, Strict, Nothing, Value),
+    row!(Zip => 72, 1, Some(1), Any, None, Strict, Nothing, Value),
+    row!(Group => 144, 1, None, Any, Index, Strict, Nothing, Value),
+    row!(Ungroup => 150, 1, Some(1), Any, None, Whole, Nothing, Value),
+    row!(Sum => 145, 1, Some(2), Any, None, Strict, Nothing, Value),
+    row!(Avg => 146, 1, Some(2), Any, None, Strict, Nothing, Value),
+    row!(Min => 147, 1, Some(2), Any, None, Strict, Nothing, Value),
+    row!(Max => 148, 1, Some(2), Any, None, Strict, Nothing, Value),
+    row!(Db => 14, 1, Some(1), Any, None, Strict, Database, Value),
+    row!(Table => 15, 1, Some(2), Any, Read, Strict, Table, Value),
+    row!(Get => 16, 2, Some(2), Any, None, Strict, Nothing, Value),
+    row!(GetAll => 78, 1, None, Any, Index, Strict, Nothing, Value),
+    row!(Between => 182, 3, Some(3), Any, IndexBounds, Strict, Nothing, Value),
+    row!(Insert => 56, 2, Some(2), Any, Insert, Strict, Nothing, Write),
+    row!(Update => 53, 2, Some(2), Any, Write, Strict, Nothing, Write),
+    row!(Replace => 55, 2, Some(2), Any, Write, Strict, Nothing, Write),
+    row!(Delete => 54, 1, Some(1), Any, Write, Strict, Nothing, Write),
+    row!(ForEach => 68, 2, Some(2), Any, None, Strict, Nothing, ForEach),
+    row!(DbCreate => 57, 1, Some(1), Any, None, Strict, CommandDatabase, Catalogue),
+    row!(DbDrop => 58, 1, Some(1), Any, None, Strict, CommandDatabase, Catalogue),
+    row!(DbList => 59, 0, Some(0), Any, None, Strict, Databases, Value),
+    row!(TableCreate => 60, 1, Some(2), Any, Create, Strict, CommandTable, Catalogue),
+    row!(TableDrop => 61, 1, Some(2), Any, None, Strict, CommandTable, Catalogue),
+    row!(TableList => 62, 0, Some(1), Any, None, Strict, Tables, Value),
+    row!(IndexCreate => 75, 2, Some(3), Any, Multi, Strict, Index, Index),
+    row!(IndexDrop => 76, 2, Some(2), Any, None, Strict, Index, Index),
+    row!(IndexRename => 156, 3, Some(3), Any, Overwrite, Strict, TwoIndexes, Index),
+    row!(IndexList => 77, 1, Some(1), Any, None, Strict, Nothing, Value),
+    row!(IndexStatus => 139, 1, None, Any, None, Strict, Nothing, Value),
+    row!(IndexWait => 140, 1, None, Any, None, Strict, Nothing, Value),
+    row!(Info => 79, 1, Some(1), Any, None, Strict, Nothing, Value),
+    row!(Config => 174, 1, Some(1), Any, None, Strict, Nothing, Value),
+    row!(Status => 175, 1, Some(1), Any, None, Strict, Nothing, Value),
+    row!(Sync => 138, 1, Some(1), Any, None, Strict, Nothing, Sync),
+    row!(Changes => 152, 1, Some(1), Any, Changes, Strict, Nothing, Feed),
+    row!(EpochTime => 101, 1, Some(1), Any, None, Strict, Nothing, Value),
+    row!(ToEpochTime => 102, 1, Some(1), Any, None, Strict, Nothing, Value),
+    row!(Now => 103, 0, Some(0), Any, None, Strict, Nothing, Value),
 ];
 
-fn row_of(op: Op) -> Row
-    ensures { result ≡ row_of op }
+fn row_at(rows: &[Row], place: usize) -> Row
+    requires there { place < length rows.now }
+    ensures { Some result ≡ slice_get rows.now place }
 {
-    let rows: &[Row] = &TABLE;
-    rows[op as usize]
+    rows[place]
 }
 
-fn find_op(rows: &[Row], number: u32) -> Option<Op>
-    ensures { result ≡ find_op rows.now number }
+fn row_of(op: Op) -> Row
+    ensures line { line_in result ≡ line_of op }
+    ensures way { result.way ≡ way_of op }
+    ensures naming { result.naming ≡ naming_of op }
+    ensures task { result.task ≡ task_of op }
 {
-    for row in rows {
-        if row.number == number {
-            return Some(row.op);
-        }
+    row_at(&TABLE, op as usize)
+}
+
+fn entry_at(ops: &[Option<Op>], place: usize) -> Option<Op>
+    ensures { result ≡ get_or ops.now place None }
+{
+    match ops.get(place) {
+        Some(op) => *op,
+        None => None,
     }
-    None
 }
 
 fn is_among(names: &[&str], name: &str) -> bool
@@ -231,7 +245,7 @@ fn is_among(names: &[&str], name: &str) -> bool
 }
 
 fn has_option(options: Options, name: &str) -> bool
-    ensures { result ≡ has_option options name.now }
+    ensures { result ≡ has_option (names_of options) name.now }
 {
     match options {
         Options::Any => true,
@@ -252,12 +266,12 @@ fn has_option(options: Options, name: &str) -> bool
 }
 
 impl Op {
-    /// The operator of a number on the wire. None for a number that has no row, and for those of
-    /// EPOCH_TIME, TO_EPOCH_TIME and NOW, which can't be read yet.
+    /// The operator of a number on the wire. None for a number that no operator has.
+    #[tactic(auto, using(crate::proofs::Numbers::indexed))]
     pub fn of(number: u32) -> Option<Op>
         ensures { result ≡ op_of number }
     {
-        find_op(&TABLE[..SERVED], number)
+        entry_at(&BY_NUMBER, number as usize)
     }
 
     /// Its number on the wire.
@@ -300,6 +314,27 @@ impl Op {
         ensures { result ≡ takes self name.now }
     {
         has_option(row_of(self).options, name)
+    }
+
+    /// How it takes its arguments.
+    pub fn way(self) -> Way
+        ensures { result ≡ way_of self }
+    {
+        row_of(self).way
+    }
+
+    /// What it names by literal texts.
+    pub fn naming(self) -> Naming
+        ensures { result ≡ naming_of self }
+    {
+        row_of(self).naming
+    }
+
+    /// What it asks for at the root of a request.
+    pub fn task(self) -> Task
+        ensures { result ≡ task_of self }
+    {
+        row_of(self).task
     }
 }
 

@@ -1,15 +1,16 @@
 // A term, and the lists and maps of terms in it.
-ghost use Rattle.std.specs.Prelude.{◌≡◌, [], ◌∷◌, ◌++◌, length, map, is_ok, IfOk, IfErr, OnSome, MatchOption, drop, ◌+◌, ◌^◌, ◌<◌, option_map, slice_get, nat_eq, if◌then◌else◌};
+ghost use Rattle.std.specs.Prelude.{◌≡◌, [], ◌∷◌, ◌++◌, length, map, is_ok, IfOk, IfErr, OnSome, MatchOption, drop, ◌+◌, ◌^◌, ◌<◌, option_map, slice_get, set, Some, nat_eq, if◌then◌else◌};
 ghost use Rattle.reql_datum.specs.Members.{find, put, without, AreRising};
 ghost use Rattle.reql_term.specs.View.{form_of, field_of};
 
-use crate::edit::{put_in, remove_in, value_in};
 use crate::op::Op;
 use crate::params::Params;
-use reql_datum::shared::{copied, own, push_on, roomy, shown};
 use reql_datum::{Datum, Memory, Name, Refused};
+use reql_memory::copy_on_write::{copied, own, push_on, roomy, shown};
+use reql_memory::sorted_map;
 use std::alloc::{AllocError, Global};
 use std::marker::Model;
+use std::mem;
 use std::sync::Arc;
 
 /// A term of ReQL.
@@ -88,7 +89,7 @@ impl Model for Terms {
     ghost coded = { forms_code };
 
     ghost use Rattle.reql_term.specs.View.{form_of};
-    ghost use Rattle.reql_datum.specs.Shared.{held_items};
+    ghost use Rattle.reql_memory.specs.CopyOnWrite.{held_items};
 
     ghost view = { λ a. map form_of (held_items a.held) };
 
@@ -128,7 +129,7 @@ impl Model for TermFields {
     ghost coded = { fields_code };
 
     ghost use Rattle.reql_term.specs.View.{field_of};
-    ghost use Rattle.reql_datum.specs.Shared.{held_items};
+    ghost use Rattle.reql_memory.specs.CopyOnWrite.{held_items};
 
     ghost view = { λ a. map field_of (held_items a.held) };
 
@@ -249,6 +250,26 @@ impl Terms {
         push_on(self.alloc, &mut self.held, item)
     }
 
+    /// Writes a term over the one at a place, which it gives, in place where the list isn't shared.
+    #[tactic(auto, using(crate::proofs::Sets::set_seen))]
+    pub fn set(&mut self, place: usize, item: Term) -> Result<Term, Refused<Term>>
+        requires there { place < length self.old }
+        ensures replaced { IfOk result (λ old. slice_get self.old place ≡ Some (form_of old)) }
+        ensures items { self.new ≡ (if is_ok result then set self.old place (form_of item) else self.old) }
+        ensures back { IfErr result (λ refused. refused.back ≡ item) }
+    {
+        if let Err(_) = own(self.alloc, &mut self.held, 0) {
+            return Err(Refused { back: item });
+        }
+        match &mut self.held {
+            None => Err(Refused { back: item }),
+            Some(list) => match Arc::get_mut(list) {
+                None => Err(Refused { back: item }),
+                Some(held) => Ok(set_in(held, place, item)),
+            },
+        }
+    }
+
     /// An equal list that shares the terms. Memory where the count of sharers is full.
     pub fn copy(&self) -> Result<Terms, Memory>
         ensures { IfOk result (λ terms. terms ≡ self.now) }
@@ -259,6 +280,14 @@ impl Terms {
             held,
         })
     }
+}
+
+fn set_in(held: &mut Vec<Term>, place: usize, item: Term) -> Term
+    requires there { place < length held.old.items }
+    ensures replaced { slice_get held.old.items place ≡ Some result }
+    ensures items { held.new.items ≡ set held.old.items place item }
+{
+    mem::replace(&mut held[place], item)
 }
 
 impl Body {
@@ -284,10 +313,8 @@ impl Body {
     pub fn copy(&self) -> Result<Body, Memory>
         ensures { IfOk result (λ body. body ≡ self.now) }
     {
-        match Arc::try_clone(&self.held) {
-            Ok(held) => Ok(Body { held }),
-            Err(_) => Err(Memory),
-        }
+        let held = Arc::try_clone(&self.held)?;
+        Ok(Body { held })
     }
 }
 
@@ -318,7 +345,7 @@ impl TermFields {
     pub fn get(&self, name: &str) -> Option<&Term>
         ensures { option_map (λ t. form_of t.now) result ≡ find name.now self.now }
     {
-        value_in(self.members(), name)
+        sorted_map::get(self.members(), &name)
     }
 
     /// Puts a term at a name, and gives the term that it replaced.
@@ -327,22 +354,7 @@ impl TermFields {
         ensures members { self.new ≡ (if is_ok result then put name (form_of value) self.old else self.old) }
         ensures back { IfErr result (λ refused. refused.back ≡ (name, value)) }
     {
-        if let Err(_) = own(self.alloc, &mut self.held, ROOM) {
-            return Err(Refused {
-                back: (name, value),
-            });
-        }
-        match &mut self.held {
-            None => Err(Refused {
-                back: (name, value),
-            }),
-            Some(list) => match Arc::get_mut(list) {
-                None => Err(Refused {
-                    back: (name, value),
-                }),
-                Some(held) => put_in(held, name, value),
-            },
-        }
+        sorted_map::put_shared(self.alloc, &mut self.held, ROOM, name, value)
     }
 
     /// Removes a name with its term, and gives the term. Memory where a shared map can't be copied.
@@ -350,17 +362,7 @@ impl TermFields {
         ensures removed { IfOk result (λ old. option_map form_of old ≡ find name.now self.old) }
         ensures members { self.new ≡ (if is_ok result then without name.now self.old else self.old) }
     {
-        if let None = self.get(name) {
-            return Ok(None);
-        }
-        own(self.alloc, &mut self.held, ROOM)?;
-        match &mut self.held {
-            None => Err(Memory),
-            Some(list) => match Arc::get_mut(list) {
-                None => Err(Memory),
-                Some(held) => Ok(remove_in(held, name)),
-            },
-        }
+        sorted_map::remove_shared(self.alloc, &mut self.held, &name)
     }
 
     /// An equal map that shares the members. Memory where the count of sharers is full.

@@ -1,13 +1,14 @@
 // A table as it is read.
-ghost use Rattle.std.specs.Prelude.{◌≡◌, List, ℕ, map, option_map, IfOk};
+ghost use Rattle.std.specs.Prelude.{◌≡◌, List, ℕ, map, length, take, drop, option_map, IfOk, OnSome};
+ghost use Rattle.reql_memory.specs.Sorted.{AreRisingBy, find_by};
 ghost use Rattle.reql_datum.specs.Members.{find, AreRising};
 ghost use Rattle.reql_datum.specs.Order.{order};
 ghost use Rattle.reql_datum.specs.Plain.{Plain, text};
-ghost use Rattle.reql_datum.specs.Sorted.{AreRisingBy, find_by};
 ghost use Rattle.reql_datum.specs.View.{plain};
-ghost use Rattle.reql_term.specs.Views.{Document, Entry, Index, Views, index_of, entries_of, between, all_of};
+ghost use Rattle.reql_term.specs.Views.{Document, Entry, Index, Views, AreInOrder, AreOf, index_of, entries_of, entries_in, documents_in, beside, seen_beside, all_of};
 
-use crate::term::Term;
+use crate::range::Range;
+use crate::term::Body;
 use reql_datum::{Datum, Items, Memory, Name};
 use std::alloc::Global;
 
@@ -16,8 +17,28 @@ use std::alloc::Global;
 #[derive(Drop)]
 pub struct IndexDef {
     pub name: Name,
-    pub func: Term,
+    pub func: Body,
     pub multi: bool,
+}
+
+impl IndexDef {
+    /// An equal index that shares its name and its function. Memory where a count of sharers is full.
+    pub fn copy(&self) -> Result<IndexDef, Memory>
+        ensures { IfOk result (λ d. d ≡ self.now) }
+    {
+        Ok(IndexDef {
+            name: self.name.copy()?,
+            func: self.func.copy()?,
+            multi: self.multi,
+        })
+    }
+}
+
+/// Entries of an index: their values, and beside each at the same place its document.
+#[derive(Drop)]
+pub struct Entries {
+    pub values: Items,
+    pub documents: Items,
 }
 
 /// Why a table gives no documents.
@@ -42,7 +63,8 @@ impl From<Memory> for ViewFault {
 ///
 /// It tells its documents, each with its primary key, rising by key; its indexes by name; and each
 /// index's entries, in the order of their values, then of their primary keys. Where an index is asked
-/// for, None is the primary order, in which the one entry of a document is its key.
+/// for, None is the primary order, in which the one entry of a document is its key. IndexMissing is
+/// the answer exactly where no index has the name.
 pub trait TableView {
     ghost documents: { Self → List Document };
 
@@ -59,28 +81,39 @@ pub trait TableView {
         ensures documents { IfOk result (λ items. items ≡ map (λ m. m.1) (documents self.now)) }
         ensures rising { AreRisingBy order (documents self.now) };
 
-    /// The documents of the entries between two values, each left out where its side is open, in
-    /// order or `down`, in the reverse. IndexMissing exactly where no index has the name.
-    fn between(
+    /// The documents of a range.
+    fn between(&self, alloc: Global, range: &Range) -> Result<Items, ViewFault>
+        ensures { Views (λ items. items) result (option_map documents_in (entries_in (documents self.now) (indexes self.now) (entries self.now) range.now)) };
+
+    /// So many of the documents of a range at most, from the one at a place on, in the direction of
+    /// the range. It takes no longer for those that come after.
+    fn part(
         &self,
         alloc: Global,
-        index: Option<&Name>,
-        low: &Datum,
-        low_open: bool,
-        high: &Datum,
-        high_open: bool,
-        down: bool,
+        range: &Range,
+        from: usize,
+        most: usize,
     ) -> Result<Items, ViewFault>
-        ensures { Views (λ items. items) result (option_map (between (plain low.now) low_open (plain high.now) high_open down) (entries_of (documents self.now) (indexes self.now) (entries self.now) (option_map (λ n. n.now) index.entry))) };
+        ensures { Views (λ items. items) result (option_map (λ es. take most (drop from (documents_in es))) (entries_in (documents self.now) (indexes self.now) (entries self.now) range.now)) };
 
-    /// The documents of the entries that have each of the keys, in the order of the keys. IndexMissing
-    /// exactly where no index has the name.
+    /// How many documents a range has, one that has several entries in it counted for each.
+    fn count_between(&self, range: &Range) -> Result<u64, ViewFault>
+        ensures { Views (λ n. n) result (option_map (λ es. length (documents_in es)) (entries_in (documents self.now) (indexes self.now) (entries self.now) range.now)) };
+
+    /// The values of a range's entries, and beside them their documents.
+    fn entries_between(&self, alloc: Global, range: &Range) -> Result<Entries, ViewFault>
+        ensures { Views seen_beside result (option_map beside (entries_in (documents self.now) (indexes self.now) (entries self.now) range.now)) };
+
+    /// The documents of the entries that have each of the keys, in the order of the keys.
     fn get_all(&self, alloc: Global, index: Option<&Name>, keys: &Items) -> Result<Items, ViewFault>
         ensures { Views (λ items. items) result (option_map (all_of keys.now) (entries_of (documents self.now) (indexes self.now) (entries self.now) (option_map (λ n. n.now) index.entry))) };
 
-    /// The index of a name.
+    /// The index of a name. The entries of an index that is there are in order, and each is one of a
+    /// document that is there.
     fn index(&self, name: &Name) -> Option<&IndexDef>
-        ensures { option_map (λ d. index_of d.now) result ≡ find name.now (indexes self.now) };
+        ensures found { option_map (λ d. index_of d.now) result ≡ find name.now (indexes self.now) }
+        ensures order { OnSome result (AreInOrder (entries self.now name.now)) }
+        ensures held { OnSome result (AreOf (documents self.now) (entries self.now name.now)) };
 
     /// The names of the indexes, rising by their bytes.
     fn names(&self, alloc: Global) -> Result<Items, Memory>
