@@ -1,0 +1,4 @@
+pub mod Bags
+pub mod Rising
+mod Ordered
+mod Merging
