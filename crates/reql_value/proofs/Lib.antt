@@ -1,0 +1,9 @@
+pub mod Worked
+pub mod Cases
+pub mod Slots
+pub mod Depends
+pub mod Stages
+pub mod Scattered
+pub mod Sources
+pub mod Shaped
+pub mod IndexLists
