@@ -1,6 +1,12 @@
-pub mod Ids
+pub mod NewIds
 pub mod Weights
 pub mod Steps
 pub mod Bodies
+pub mod Understood
+pub mod Shapes
+pub mod Taken
+pub mod Asked
+pub mod BodyText
+pub mod First
 pub mod Back
-pub mod Reached
+pub mod Held

@@ -1,116 +1,61 @@
--- The term that a JSON value is, or the first fault in preorder: a term's number, its count of arguments,
--- its optional names in the order of their bytes, then its arguments and the values of its optional ones.
-use Rattle.std.specs.Prelude.{ℕ, List, [], ◌∷◌, nat_eq, if◌then◌else◌, Result, Ok, Err}
-use Rattle.serde_json.specs.Data.{Data, null, boolean, number, string, array, object, Items, no_items, item, Members, no_members, member}
+-- The term that is written (numbers as in `ql2.proto`, arguments as in the ReQL API reference), or the first fault in
+-- preorder: a term's number, its count of arguments, its optional names in the order of their bytes, then its arguments
+-- and the values of its optional ones.
+use Rattle.std.specs.Prelude.{ℕ, ◌^◌, ◌-◌, List, [], ◌∷◌, ◌&&◌, nat_le, min, if◌then◌else◌, Option, Some, None, Result, Ok, Err}
 use Rattle.reql_datum.specs.Answer.{◌>>=◌}
+use Rattle.reql_datum.specs.Plain.{Plain}
 use Rattle.reql_json.specs.Reading.{document}
-use Rattle.reql_term.specs.Form.{Form, several, keyed, variable, implicit, function, operation, forms_of, named_of}
+use Rattle.reql_json.specs.declared.fault.JsonFault.{JsonFault}
+use Rattle.reql_term.specs.Form.{Form, literal, several, keyed, implicit, operation, forms_of, named_of}
+use Rattle.reql_term.specs.Form as form
+use Rattle.reql_term.specs.Table.{op_of, number_of, fits, takes}
 use Rattle.reql_term.specs.declared.op.Op.{Op}
 use Rattle.reql_term.specs.declared.op.Op.TheVariants as op
-use Rattle.reql_read.specs.Parts.{number_in, items_in, options_in, one_in, array_in, ids_of, all_taken, checked, unless_reserved, literal_of}
+use Rattle.reql_read.specs.Written.{Names, Written, value, array, object, variable, row, function, call, Parts, no_parts, part, NamedParts, no_named, named, count_of, names_of}
 use Rattle.reql_read.specs.declared.fault.ReadFault.{ReadFault}
-use Rattle.reql_read.specs.declared.fault.ReadFault.TheVariants.{BadShape}
+use Rattle.reql_read.specs.declared.fault.ReadFault.TheVariants.{UnknownTerm, LeftOut, Arity, BadOptarg, Number}
 
-abbrev pub Named : Type 0
-Named = List (List ℕ × Form)
+-- the operator of a number
+abbrev pub or_left_out : ℕ → Option Op → Result Op ReadFault
+or_left_out n None = Err (LeftOut n)
+or_left_out n (Some op) = Ok op
 
-abbrev pub keyed_of : Result Named ReadFault → Result Form ReadFault
-keyed_of named = named >>= λ ms. Ok (keyed (named_of ms))
+unfoldable pub op_named : ℕ → Result Op ReadFault
+op_named n = if nat_le 1 n && nat_le n 255 then or_left_out n (op_of n) else Err (UnknownTerm n)
 
-abbrev pub several_of : Result (List Form) ReadFault → Result Form ReadFault
-several_of forms = forms >>= λ fs. Ok (several (forms_of fs))
+-- a right count of arguments, and none but its optional arguments
+unfoldable pub counted : Op → ℕ → Result (Unit {0}) ReadFault
+counted op n = if fits op n then Ok tt else Err (Arity (number_of op) (min n (2 ^ 32 - 1)))
 
-abbrev pub operation_of : Op → Result (List Form) ReadFault → Result Named ReadFault → Result Form ReadFault
-operation_of op forms named = forms >>= λ fs. named >>= λ ms. Ok (operation op (forms_of fs) (named_of ms))
+abbrev pub all_taken : Op → Names → Result (Unit {0}) ReadFault
+all_taken op [] = Ok tt
+all_taken op (k ∷ ks) = if takes op k then all_taken op ks else Err (BadOptarg k)
 
-abbrev pub function_of : Result (List ℕ) ReadFault → Result Form ReadFault → Result Form ReadFault
-function_of ids body = ids >>= λ ns. body >>= λ f. Ok (function ns f)
+-- the operator of a term with so many arguments and optional arguments of these names
+abbrev pub checked : ℕ → ℕ → Names → Result Op ReadFault
+checked n count names = op_named n >>= λ op. counted op count >>= λ t. all_taken op names >>= λ u. Ok op
 
--- the id in the one argument of a variable
-abbrev pub variable_of : Items → Result Form ReadFault
-variable_of args = one_in args >>= λ d. number_in d >>= λ id. Ok (variable id)
-
--- the ids in the first argument of a function, which is an array of them and has no optional argument
-abbrev pub plain_ids : Data → Result (List ℕ) ReadFault
-plain_ids d = array_in d >>= λ a. all_taken op.MakeArray a.1 >>= λ t. ids_of a.0
-
-abbrev pub first_ids : Items → Result (List ℕ) ReadFault
-first_ids no_items = Err BadShape
-first_ids (item d ds) = plain_ids d
-
--- a term of a number, over what its arguments, its optional arguments and its second argument are
-abbrev pub by_number : ℕ → Op → Items → Members → Result (List Form) ReadFault → Result Named ReadFault → Result Form ReadFault → Result Form ReadFault
-by_number n op args opts forms named body =
-    if nat_eq n 10 then variable_of args else (
-    if nat_eq n 13 then Ok implicit else (
-    if nat_eq n 2 then several_of forms else (
-    if nat_eq n 3 then unless_reserved opts (keyed_of named) else (
-    if nat_eq n 69 then function_of (first_ids args) body else (
-    operation_of op forms named)))))
-
-abbrev pub called : ℕ → Items → Members → Result (List Form) ReadFault → Result Named ReadFault → Result Form ReadFault → Result Form ReadFault
-called n args opts forms named body = checked n args opts >>= λ op. by_number n op args opts forms named body
+-- a document as a term
+abbrev pub literal_of : Result Plain JsonFault → Result Form ReadFault
+literal_of (Ok p) = Ok (literal p)
+literal_of (Err fault) = Err (Number fault)
 
 abbrev mutual
-  pub read : Data → Result Form ReadFault
-  read null = literal_of (document null)
-  read (boolean b) = literal_of (document (boolean b))
-  read (number n) = literal_of (document (number n))
-  read (string s) = literal_of (document (string s))
-  read (array ds) = read_term ds
-  read (object ms) = unless_reserved ms (keyed_of (read_named ms))
+  pub read : Written → Result Form ReadFault
+  read (value d) = literal_of (document d)
+  read (array ws names) = all_taken op.MakeArray names >>= λ t. read_all ws >>= λ fs. Ok (several (forms_of fs))
+  read (object ws) = read_named ws >>= λ ms. Ok (keyed (named_of ms))
+  read (variable id names) = all_taken op.Var names >>= λ t. Ok (form.variable id)
+  read (row names) = all_taken op.ImplicitVar names >>= λ t. Ok implicit
+  read (function ids id_names body names) =
+      all_taken op.Func names >>= λ t. all_taken op.MakeArray id_names >>= λ u. read body >>= λ f. Ok (form.function ids f)
+  read (call n args opts) =
+      checked n (count_of args) (names_of opts) >>= λ op. read_all args >>= λ fs. read_named opts >>= λ ms. Ok (operation op (forms_of fs) (named_of ms))
 
-  pub read_term : Items → Result Form ReadFault
-  read_term no_items = Err BadShape
-  read_term (item n ds) = number_in n >>= λ k. read_parts k ds
+  pub read_all : Parts → Result (List Form) ReadFault
+  read_all no_parts = Ok []
+  read_all (part w ws) = read w >>= λ f. read_all ws >>= λ fs. Ok (f ∷ fs)
 
-  -- the arguments and the optional arguments of a term of a number
-  pub read_parts : ℕ → Items → Result Form ReadFault
-  read_parts n no_items = called n no_items no_members (Ok []) (Ok []) (Err BadShape)
-  read_parts n (item args ds) =
-      items_in args >>= λ items. options_in ds >>= λ opts. called n items opts (read_args args) (read_options ds) (read_body args)
-
-  pub read_args : Data → Result (List Form) ReadFault
-  read_args null = Err BadShape
-  read_args (boolean b) = Err BadShape
-  read_args (number n) = Err BadShape
-  read_args (string s) = Err BadShape
-  read_args (array ds) = read_all ds
-  read_args (object ms) = Err BadShape
-
-  pub read_options : Items → Result Named ReadFault
-  read_options no_items = Ok []
-  read_options (item d ds) = read_members d
-
-  pub read_members : Data → Result Named ReadFault
-  read_members null = Err BadShape
-  read_members (boolean b) = Err BadShape
-  read_members (number n) = Err BadShape
-  read_members (string s) = Err BadShape
-  read_members (array ds) = Err BadShape
-  read_members (object ms) = read_named ms
-
-  pub read_body : Data → Result Form ReadFault
-  read_body null = Err BadShape
-  read_body (boolean b) = Err BadShape
-  read_body (number n) = Err BadShape
-  read_body (string s) = Err BadShape
-  read_body (array ds) = read_second ds
-  read_body (object ms) = Err BadShape
-
-  -- the second of the arguments, which is the body of a function
-  pub read_second : Items → Result Form ReadFault
-  read_second no_items = Err BadShape
-  read_second (item d ds) = read_first ds
-
-  pub read_first : Items → Result Form ReadFault
-  read_first no_items = Err BadShape
-  read_first (item d ds) = read d
-
-  pub read_all : Items → Result (List Form) ReadFault
-  read_all no_items = Ok []
-  read_all (item d ds) = read d >>= λ f. read_all ds >>= λ fs. Ok (f ∷ fs)
-
-  pub read_named : Members → Result Named ReadFault
-  read_named no_members = Ok []
-  read_named (member k d ms) = read d >>= λ f. read_named ms >>= λ fs. Ok ((k, f) ∷ fs)
+  pub read_named : NamedParts → Result (List (List ℕ × Form)) ReadFault
+  read_named no_named = Ok []
+  read_named (named k w ws) = read w >>= λ f. read_named ws >>= λ ms. Ok ((k, f) ∷ ms)

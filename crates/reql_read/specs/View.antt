@@ -1,7 +1,7 @@
 -- What a query stands for, and what a refusal tells.
 use Rattle.std.specs.Prelude.{◌≡◌, Bool, true, Result, Ok, Err}
 use Rattle.reql_term.specs.View.{form_of}
-use Rattle.reql_read.specs.Outcome.{Reads}
+use Rattle.reql_read.specs.Outcome.{Understands}
 use Rattle.reql_read.specs.Query.{Asked, start, continued, stop, noreply_wait, server_info}
 use Rattle.reql_read.specs.declared.fault.ReadFault.{ReadFault}
 use Rattle.reql_read.specs.declared.fault.ReadFault.TheVariants.{Memory}
@@ -17,9 +17,9 @@ asked v.NoreplyWait = noreply_wait
 asked v.ServerInfo = server_info
 
 -- the query, or the fault
-abbrev pub Answers : Result Query Unread → Result Asked ReadFault → Type 0
-Answers (Ok q) meant = Reads asked (Ok q) meant
-Answers (Err u) meant = Reads asked (Err u.fault) meant
+abbrev pub UnderstandsBody : Result Query Unread → Result Asked ReadFault → Type 0
+UnderstandsBody (Ok q) meant = Understands asked (Ok q) meant
+UnderstandsBody (Err u) meant = Understands asked (Err u.fault) meant
 
 -- whether no answer is wanted, told exactly but where memory ran out: then it is never told falsely
 abbrev pub IsTold : Bool → Unread → Type 0

@@ -3,17 +3,18 @@ ghost use Rattle.std.specs.Prelude.{◌≡◌, map, option_map, None, IfOk};
 ghost use Rattle.serde_json.specs.Find.{as_bool, as_object};
 ghost use Rattle.serde_json.specs.View.{view, items_view, members_view};
 ghost use Rattle.reql_term.specs.Table.{is_among};
-ghost use Rattle.reql_read.specs.Outcome.{Reads};
-ghost use Rattle.reql_read.specs.Query.{is_named, is_accepted, usual, only_text, are_none, are_no_options, db_args, is_number, db_term, db_in, limit_of, batch_of, profile_of, as_whole, setting_of, with_option, settings_from, settings_of, or_bad};
-ghost use Rattle.reql_read.specs.Seen.{optional};
+ghost use Rattle.reql_read.specs.Outcome.{Understands};
+ghost use Rattle.reql_read.specs.Globals.{is_named, is_accepted, usual, only_text, are_none, are_no_options, db_args, is_number, db_term, db_in, limit_of, batch_of, profile_of, as_whole, choice_of, with_option, settings_from, settings_of, or_bad};
+ghost use Rattle.reql_read.specs.Seen.{seen, optional};
 
 use crate::fault::ReadFault;
 use reql_datum::{Memory, Name};
+use reql_term::Op;
 use serde_json::{Map, Value};
 use std::alloc::Global;
 
-/// The options of a query: its default database, the length that an array may have, how many items an
-/// answer holds at most, and whether it wants none.
+/// The options of a query: its default database, the length that an array may have, how many items
+/// an answer holds at most, and whether it wants none.
 #[derive(Drop)]
 pub(crate) struct Settings {
     pub(crate) db: Name,
@@ -24,7 +25,7 @@ pub(crate) struct Settings {
 
 // What an option sets, by its name.
 #[derive(Clone, Copy)]
-pub(crate) enum Setting {
+pub(crate) enum Choice {
     Db,
     Noreply,
     ArrayLimit,
@@ -48,7 +49,7 @@ pub(crate) const ACCEPTED: [&str; 10] = [
     "binary_format",
 ];
 
-#[tactic(auto, unfolding(crate::specs::Query::is_named))]
+#[tactic(auto, unfolding(crate::specs::Globals::is_named))]
 fn is_named(key: &str, name: &str) -> bool
     ensures { result ≡ is_named key.now name.now }
 {
@@ -66,37 +67,37 @@ fn is_among(names: &[&str], name: &str) -> bool
     false
 }
 
-#[tactic(auto, unfolding(crate::specs::Query::is_accepted))]
+#[tactic(auto, unfolding(crate::specs::Globals::is_accepted))]
 fn is_accepted(key: &str) -> bool
     ensures { result ≡ is_accepted key.now }
 {
     is_among(&ACCEPTED, key)
 }
 
-#[tactic(auto, unfolding(crate::specs::Query::setting_of))]
-fn setting_of(key: &str) -> Setting
-    ensures { result ≡ setting_of key.now }
+#[tactic(auto, unfolding(crate::specs::Globals::choice_of))]
+fn choice_of(key: &str) -> Choice
+    ensures { result ≡ choice_of key.now }
 {
     if is_named(key, "db") {
-        Setting::Db
+        Choice::Db
     } else if is_named(key, "noreply") {
-        Setting::Noreply
+        Choice::Noreply
     } else if is_named(key, "array_limit") {
-        Setting::ArrayLimit
+        Choice::ArrayLimit
     } else if is_named(key, "max_batch_rows") {
-        Setting::Batch
+        Choice::Batch
     } else if is_named(key, "profile") {
-        Setting::Profile
+        Choice::Profile
     } else if is_accepted(key) {
-        Setting::Accepted
+        Choice::Accepted
     } else {
-        Setting::Unknown
+        Choice::Unknown
     }
 }
 
 // That an option is none, or has a bad value.
 fn bad<T: Drop>(alloc: Global, key: &str) -> Result<T, ReadFault>
-    ensures { Reads (λ x. x) result (or_bad key.now None) }
+    ensures { Understands (λ x. x) result (or_bad key.now None) }
 {
     Err(ReadFault::BadOptarg(Name::of(alloc, key)?))
 }
@@ -164,7 +165,7 @@ fn db_term(term: &[Value]) -> Option<&str>
     let [number, rest @ ..] = term else {
         return None;
     };
-    if is_number(14, number.as_u64()) {
+    if is_number(u64::from(Op::Db.number()), number.as_u64()) {
         db_args(rest)
     } else {
         None
@@ -179,7 +180,7 @@ fn db_in(v: &Value) -> Option<&str>
 }
 
 fn db(alloc: Global, key: &str, v: &Value) -> Result<Name, ReadFault>
-    ensures { Reads (λ n. n) result (or_bad key.now (db_in (view v.now))) }
+    ensures { Understands (λ n. n) result (or_bad key.now (db_in (view v.now))) }
 {
     match db_in(v) {
         Some(name) => Ok(Name::of(alloc, name)?),
@@ -188,7 +189,7 @@ fn db(alloc: Global, key: &str, v: &Value) -> Result<Name, ReadFault>
 }
 
 fn noreply(alloc: Global, key: &str, v: &Value) -> Result<bool, ReadFault>
-    ensures { Reads (λ b. b) result (or_bad key.now (as_bool (view v.now))) }
+    ensures { Understands (λ b. b) result (or_bad key.now (as_bool (view v.now))) }
 {
     match v.as_bool() {
         Some(wanted) => Ok(wanted),
@@ -197,7 +198,7 @@ fn noreply(alloc: Global, key: &str, v: &Value) -> Result<bool, ReadFault>
 }
 
 fn array_limit(alloc: Global, key: &str, v: &Value) -> Result<u64, ReadFault>
-    ensures { Reads (λ n. n) result (or_bad key.now (limit_of (as_whole (view v.now)))) }
+    ensures { Understands (λ n. n) result (or_bad key.now (limit_of (as_whole (view v.now)))) }
 {
     match v.as_u64() {
         Some(limit) if limit >= 1 && limit <= 100_000_000 => Ok(limit),
@@ -206,7 +207,7 @@ fn array_limit(alloc: Global, key: &str, v: &Value) -> Result<u64, ReadFault>
 }
 
 fn batch(alloc: Global, key: &str, v: &Value) -> Result<u32, ReadFault>
-    ensures { Reads (λ n. n) result (or_bad key.now (batch_of (as_whole (view v.now)))) }
+    ensures { Understands (λ n. n) result (or_bad key.now (batch_of (as_whole (view v.now)))) }
 {
     match v.as_u64() {
         Some(rows) if rows >= 1 => Ok(if rows < 1000 { rows as u32 } else { 1000 }),
@@ -216,7 +217,7 @@ fn batch(alloc: Global, key: &str, v: &Value) -> Result<u32, ReadFault>
 
 // No profile is made.
 fn profile(alloc: Global, key: &str, v: &Value) -> Result<(), ReadFault>
-    ensures { Reads (λ t. t) result (or_bad key.now (profile_of (as_bool (view v.now)))) }
+    ensures { Understands (λ t. t) result (or_bad key.now (profile_of (as_bool (view v.now)))) }
 {
     match v.as_bool() {
         Some(false) => Ok(()),
@@ -231,16 +232,16 @@ fn with_option(
     key: &str,
     v: &Value,
 ) -> Result<Settings, ReadFault>
-    ensures { Reads (λ s. s) result (with_option settings key.now (view v.now)) }
+    ensures { Understands (λ s. s) result (with_option settings key.now (view v.now)) }
 {
-    match setting_of(key) {
-        Setting::Db => settings.db = db(alloc, key, v)?,
-        Setting::Noreply => settings.noreply = noreply(alloc, key, v)?,
-        Setting::ArrayLimit => settings.array_limit = array_limit(alloc, key, v)?,
-        Setting::Batch => settings.batch = batch(alloc, key, v)?,
-        Setting::Profile => profile(alloc, key, v)?,
-        Setting::Accepted => {}
-        Setting::Unknown => return bad(alloc, key),
+    match choice_of(key) {
+        Choice::Db => settings.db = db(alloc, key, v)?,
+        Choice::Noreply => settings.noreply = noreply(alloc, key, v)?,
+        Choice::ArrayLimit => settings.array_limit = array_limit(alloc, key, v)?,
+        Choice::Batch => settings.batch = batch(alloc, key, v)?,
+        Choice::Profile => profile(alloc, key, v)?,
+        Choice::Accepted => {}
+        Choice::Unknown => return bad(alloc, key),
     }
     Ok(settings)
 }
@@ -261,7 +262,7 @@ fn settings_from(
     mut settings: Settings,
     members: &Map<String, Value>,
 ) -> Result<Settings, ReadFault>
-    ensures { Reads (λ s. s) result (settings_from settings (members_view members.now.entries)) }
+    ensures { Understands (λ s. s) result (settings_from settings (seen members.now)) }
 {
     for (key, member) in members.iter() {
         settings = with_option(alloc, settings, key.as_str(), member)?;
@@ -270,12 +271,12 @@ fn settings_from(
 }
 
 /// The options of a query.
-#[tactic(auto, unfolding(crate::specs::Query::settings_of))]
+#[tactic(auto, unfolding(crate::specs::Globals::settings_of))]
 pub(crate) fn settings_of(
     alloc: Global,
     options: Option<&Map<String, Value>>,
 ) -> Result<Settings, ReadFault>
-    ensures { Reads (λ s. s) result (settings_of (optional options.entry)) }
+    ensures { Understands (λ s. s) result (settings_of (optional options.entry)) }
 {
     let usual = usual(alloc)?;
     match options {

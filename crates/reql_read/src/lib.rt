@@ -1,10 +1,11 @@
 //! Bodies of queries, read to terms or refused by their exact fault.
 #![tactic(auto)]
 
+mod checks;
 mod fault;
 mod globals;
+mod ids;
 mod laws;
-mod parts;
 mod query;
 mod read;
 mod shape;

@@ -1,16 +1,16 @@
 // What a body asks for.
 ghost use Rattle.std.specs.Prelude.{◌≡◌, IfErr};
 ghost use Rattle.serde_json.specs.View.{view, items_view};
-ghost use Rattle.reql_read.specs.Outcome.{Reads};
-ghost use Rattle.reql_read.specs.Query.{started, start_parts, of_kind, query_parts, query, query_text, is_true, third_is_quiet, second_is_quiet, first_is_quiet, is_quiet, text_is_quiet};
+ghost use Rattle.reql_read.specs.Apart.{started, started_by, asked_kind, asked_parts, asked_of};
+ghost use Rattle.reql_read.specs.Outcome.{Understands};
+ghost use Rattle.reql_read.specs.Query.{query, query_text, is_true, third_is_quiet, second_is_quiet, first_is_quiet, is_quiet, text_is_quiet};
 ghost use Rattle.reql_read.specs.Seen.{optional};
-ghost use Rattle.reql_read.specs.View.{asked, Answers, IsTold};
+ghost use Rattle.reql_read.specs.View.{asked, UnderstandsBody, IsTold};
 
 use crate::fault::ReadFault;
 use crate::globals::{Settings, is_number, settings_of};
-use crate::parts::{items_in, number_in, options_in};
 use crate::read::read;
-use crate::shape::shaped;
+use crate::shape::{items_in, number_in, options_in, shaped};
 use reql_datum::Name;
 use reql_term::Term;
 use serde_json::{Map, Value};
@@ -35,8 +35,8 @@ pub enum Query {
     ServerInfo,
 }
 
-/// Why a body is no query, and whether it says that it wants no answer: whether it is a JSON array that
-/// begins with 1 and whose third member is an object with the member `noreply` true.
+/// Why a body is no query, and whether it says that it wants no answer: whether it is a JSON array
+/// that begins with 1 and whose third member is an object with the member `noreply` true.
 ///
 /// Where memory ran out, `noreply` may be false in place of true.
 #[derive(Drop)]
@@ -59,10 +59,10 @@ fn started(
     term: &Value,
     options: Option<&Map<String, Value>>,
 ) -> Result<Query, ReadFault>
-    ensures { Reads asked result (started (view term.now) (optional options.entry)) }
+    ensures { Understands asked result (started (view term.now) (optional options.entry)) }
 {
     shaped(alloc, term)?;
-    let term = read(alloc, term)?;
+    let term = read(alloc, term, None)?;
     let Settings {
         db,
         array_limit,
@@ -82,7 +82,7 @@ fn started(
 }
 
 fn start_parts(alloc: Global, parts: &[Value]) -> Result<Query, ReadFault>
-    ensures { Reads asked result (start_parts (items_view parts.now)) }
+    ensures { Understands asked result (started_by (items_view parts.now)) }
 {
     let [term, rest @ ..] = parts else {
         return Err(ReadFault::BadShape);
@@ -91,7 +91,7 @@ fn start_parts(alloc: Global, parts: &[Value]) -> Result<Query, ReadFault>
 }
 
 fn of_kind(alloc: Global, kind: u64, parts: &[Value]) -> Result<Query, ReadFault>
-    ensures { Reads asked result (of_kind kind (items_view parts.now)) }
+    ensures { Understands asked result (asked_kind kind (items_view parts.now)) }
 {
     match kind {
         1 => start_parts(alloc, parts),
@@ -104,7 +104,7 @@ fn of_kind(alloc: Global, kind: u64, parts: &[Value]) -> Result<Query, ReadFault
 }
 
 fn query_parts(alloc: Global, parts: &[Value]) -> Result<Query, ReadFault>
-    ensures { Reads asked result (query_parts (items_view parts.now)) }
+    ensures { Understands asked result (asked_parts (items_view parts.now)) }
 {
     let [kind, rest @ ..] = parts else {
         return Err(ReadFault::BadShape);
@@ -112,10 +112,16 @@ fn query_parts(alloc: Global, parts: &[Value]) -> Result<Query, ReadFault>
     of_kind(alloc, number_in(kind)?, rest)
 }
 
-fn query_of(alloc: Global, v: &Value) -> Result<Query, ReadFault>
-    ensures { Reads asked result (query (view v.now)) }
+fn taken(alloc: Global, v: &Value) -> Result<Query, ReadFault>
+    ensures { Understands asked result (asked_of (view v.now)) }
 {
     query_parts(alloc, items_in(v)?)
+}
+
+fn query_of(alloc: Global, v: &Value) -> Result<Query, ReadFault>
+    ensures { Understands asked result (query (view v.now)) }
+{
+    taken(alloc, v)
 }
 
 fn is_true(found: Option<bool>) -> bool
@@ -166,10 +172,11 @@ fn is_quiet(v: &Value) -> bool
 
 /// The query that a body is, or why it is none.
 ///
-/// The fault is the first: NotJson where the body is no JSON text in UTF-8, BadShape where it has not
-/// the shape of a query, then those of the term in preorder, then those of the options by name.
+/// The fault is the first: NotJson where the body is no JSON text in UTF-8, BadShape where it has
+/// not the shape of a query, then those of the term in preorder, then those of the options by name.
+/// Terms that follow one another in a list share the names that are equal at like places.
 pub fn read_query(alloc: Global, body: &[u8]) -> Result<Query, Unread>
-    ensures query { Answers result (query_text body.now) }
+    ensures query { UnderstandsBody result (query_text body.now) }
     ensures noreply { IfErr result (IsTold (text_is_quiet body.now)) }
 {
     match Value::from_slice(alloc, body) {

@@ -1,7 +1,7 @@
 // What a client is told of a fault of reading.
 ghost use Rattle.std.specs.Prelude.{◌≡◌, ◌++◌, codes, IfOk, string_bytes};
 ghost use Rattle.std.specs.Fmt.{decimal};
-ghost use Rattle.reql_read.specs.FaultText.{fault_text, number_text, answer_type};
+ghost use Rattle.reql_read.specs.FaultText.{unknown_text, left_out_text, arity_text, option_text, fault_text, number_text, answer_type};
 
 use crate::fault::ReadFault;
 use reql_datum::{Memory, Name};
@@ -20,7 +20,7 @@ fn number_text(fault: JsonFault) -> &'static str
 }
 
 fn unknown(alloc: Global, number: u64) -> Result<Name, Memory>
-    ensures { IfOk result (λ s. s ≡ codes "Unknown term " ++ decimal number ++ codes ".") }
+    ensures { IfOk result (λ s. s ≡ unknown_text number) }
 {
     match format!(in alloc; "Unknown term {}.", number) {
         Ok(text) => Name::of(alloc, text.as_str()),
@@ -29,7 +29,7 @@ fn unknown(alloc: Global, number: u64) -> Result<Name, Memory>
 }
 
 fn left_out(alloc: Global, number: u32) -> Result<Name, Memory>
-    ensures { IfOk result (λ s. s ≡ codes "Term " ++ decimal number ++ codes " is not supported.") }
+    ensures { IfOk result (λ s. s ≡ left_out_text number) }
 {
     match format!(in alloc; "Term {} is not supported.", number) {
         Ok(text) => Name::of(alloc, text.as_str()),
@@ -38,7 +38,7 @@ fn left_out(alloc: Global, number: u32) -> Result<Name, Memory>
 }
 
 fn arity(alloc: Global, number: u32, count: u32) -> Result<Name, Memory>
-    ensures { IfOk result (λ s. s ≡ codes "Term " ++ (decimal number ++ (codes " does not take " ++ (decimal count ++ codes " arguments.")))) }
+    ensures { IfOk result (λ s. s ≡ arity_text number count) }
 {
     match format!(in alloc; "Term {} does not take {} arguments.", number, count) {
         Ok(text) => Name::of(alloc, text.as_str()),
@@ -47,7 +47,7 @@ fn arity(alloc: Global, number: u32, count: u32) -> Result<Name, Memory>
 }
 
 fn bad_option(alloc: Global, name: &Name) -> Result<Name, Memory>
-    ensures { IfOk result (λ s. s ≡ codes "Unrecognized optional argument `" ++ name.now ++ codes "`.") }
+    ensures { IfOk result (λ s. s ≡ option_text name.now) }
 {
     match format!(in alloc; "Unrecognized optional argument `{}`.", name.as_str()) {
         Ok(text) => Name::of(alloc, text.as_str()),
@@ -72,8 +72,8 @@ impl ReadFault {
         }
     }
 
-    /// The type of the answer that tells it: 16 for a client error, 17 for a compile error, and 18, a
-    /// runtime error, where memory ran out.
+    /// The type of the answer that tells it (`ql2.proto`): 16 for a client error, 17 for a compile
+    /// error, and 18, a runtime error, where memory ran out.
     pub fn answer_type(&self) -> u8
         ensures { result ≡ answer_type self.now }
     {

@@ -1,7 +1,7 @@
 use Rattle.std.proofs.Common.{Err, false, refl, sym, ◌∙◌, subst}
 use Rattle.serde_json.specs.View.{view}
 use Rattle.reql_read.proofs.Bodies.{no_json, is_json}
-use Rattle.reql_read.specs.Outcome.{Reads}
+use Rattle.reql_read.specs.Outcome.{Understands}
 use Rattle.reql_read.specs.Query.{value_query, value_is_quiet}
 use Rattle.reql_read.specs.View.{asked}
 use Rattle.reql_read.specs.declared.fault.ReadFault.TheVariants.{NotJson}
@@ -22,7 +22,7 @@ returns-in-Ok-query_of-clause-query c =
 
 pub returns-clause-query : goal.returns-clause-query
 returns-clause-query c =
-    subst (Reads asked (Err c.in-Err-query_of.fault)) (sym (is_json value_query (Err NotJson) c.args.body.now (view c.in-Ok.value) c.in-Ok.ensures.ok.0 c.in-Ok.ensures.ok.1)) c.in-Err-query_of.ensures
+    subst (Understands asked (Err c.in-Err-query_of.fault)) (sym (is_json value_query (Err NotJson) c.args.body.now (view c.in-Ok.value) c.in-Ok.ensures.ok.0 c.in-Ok.ensures.ok.1)) c.in-Err-query_of.ensures
 
 pub returns-clause-noreply : goal.returns-clause-noreply
 returns-clause-noreply c =

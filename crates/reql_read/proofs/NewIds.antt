@@ -8,7 +8,8 @@ use Rattle.std.specs.Ordering.{nat_cmp}
 use Rattle.serde_json.specs.View.{view, items_view}
 use Rattle.serde_json.specs.declared.value.Value.{Value}
 use Rattle.reql_term.specs.Params.{IsNew}
-use Rattle.reql_read.specs.Parts.{is_new, ids_from, number_in}
+use Rattle.reql_read.specs.Apart.{ids_among}
+use Rattle.reql_read.specs.Shape.{is_new, number_in}
 use Rattle.reql_read.specs.declared.fault.ReadFault.{ReadFault}
 
 apart : (k id : ℕ) → nat_eq k id ≡ false → k ≡ id → ⊥
@@ -55,10 +56,10 @@ pub seen_step : (ids : List ℕ) (id x : ℕ) (now before : Bool) → now ≡ co
 seen_step ids id x now before is known =
     is ∙ ap (λ t. cond t true before) (unsigned_tied id x) ∙ ap (cond (nat_eq id x) true) known ∙ joined (nat_eq id x) (is_new x ids) ∙ ap not (sym (new_last x id ids))
 
-pub ids_step : (whole : Result (List ℕ) ReadFault) (items : List Value) (i : ℕ) (v : Value) (id : ℕ) (ids new : List ℕ) → whole ≡ ids_from ids (items_view (drop i items)) → i < length items → v ≡ get_or items i v
-    → number_in (view v) ≡ Ok id → is_new id ids ≡ true → new ≡ ids ++ id ∷ [] → whole ≡ ids_from new (items_view (drop (i + 1) items))
+pub ids_step : (whole : Result (List ℕ) ReadFault) (items : List Value) (i : ℕ) (v : Value) (id : ℕ) (ids new : List ℕ) → whole ≡ ids_among ids (items_view (drop i items)) → i < length items → v ≡ get_or items i v
+    → number_in (view v) ≡ Ok id → is_new id ids ≡ true → new ≡ ids ++ id ∷ [] → whole ≡ ids_among new (items_view (drop (i + 1) items))
 ids_step whole items i v id ids new known below here is first added =
     let split : drop i items ≡ v ∷ drop (suc i) items = drop-cons items i v below ∙ ap (λ x. x ∷ drop (suc i) items) (sym here) in
-    let later = λ (xs : List ℕ). ids_from xs (items_view (drop (suc i) items)) in
-    let step : ids_from ids (items_view (v ∷ drop (suc i) items)) ≡ later (ids ++ id ∷ []) = rw (is, first) refl in
-    rw add-one (known ∙ ap (λ vs. ids_from ids (items_view vs)) split ∙ step ∙ ap later (sym added))
+    let later = λ (xs : List ℕ). ids_among xs (items_view (drop (suc i) items)) in
+    let step : ids_among ids (items_view (v ∷ drop (suc i) items)) ≡ later (ids ++ id ∷ []) = rw (is, first) refl in
+    rw add-one (known ∙ ap (λ vs. ids_among ids (items_view vs)) split ∙ step ∙ ap later (sym added))

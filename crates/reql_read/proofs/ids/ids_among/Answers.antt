@@ -1,9 +1,9 @@
 use Rattle.std.proofs.Common.{◌≡◌, ◌++◌, ◌∷◌, [], ℕ, not, true}
 use Rattle.std.specs.BTreeSet.{contains}
 use Rattle.std.specs.Ordering.{nat_cmp}
-use Rattle.reql_read.specs.Parts.{is_new}
-use Rattle.reql_read.proofs.Ids.{new_of, fresh, seen_step, ids_step}
-use Rattle.reql_read.proofs.parts.ids_of.Goals as goal
+use Rattle.reql_read.specs.Shape.{is_new}
+use Rattle.reql_read.proofs.NewIds.{new_of, fresh, seen_step, ids_step}
+use Rattle.reql_read.proofs.ids.ids_among.Goals as goal
 
 pub push-requires : goal.push-requires
 push-requires c =

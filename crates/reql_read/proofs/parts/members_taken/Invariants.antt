@@ -1,7 +1,0 @@
-use Rattle.std.proofs.Common.{◌≡◌}
-use Rattle.serde_json.specs.View.{members_view}
-use Rattle.reql_read.specs.Parts.{all_taken}
-use Rattle.reql_read.proofs.parts.members_taken.Given as goal
-
-abbrev pub invariant-loop-key : goal.invariant-loop-key
-invariant-loop-key l = all_taken l.op (members_view l.members.entries) ≡ all_taken l.op (members_view l.key-iterator)
