@@ -4,11 +4,11 @@ use Rattle.std.specs.List.{insert}
 use Rattle.std.specs.Map.{keys_of}
 use Rattle.reql_datum.specs.Plain.{Plain}
 use Rattle.reql_datum.specs.Order.{order}
-use Rattle.reql_datum.specs.Sorted.{put_by, IsGapBy}
+use Rattle.reql_memory.specs.Sorted.{put_by, IsGapBy}
 use Rattle.reql_datum.specs.View.{plain}
 use Rattle.reql_datum.specs.Total.{order_total}
-use Rattle.reql_datum.proofs.Held.{held_insert}
-use Rattle.reql_datum.proofs.Sorted as sorted
+use Rattle.reql_memory.proofs.Held.{held_insert}
+use Rattle.reql_memory.proofs.Sorted as sorted
 use Rattle.reql_law.specs.Write.{Inserts, Errs, verdict_of, inserted_by}
 use Rattle.reql_law.specs.Machine.{Table, empty, after, after_cmd, replay_from, replay}
 use Rattle.reql_law.specs.Rows.{pair}
@@ -16,7 +16,7 @@ use Rattle.reql_law.specs.Kept.{Keeps}
 use Rattle.reql_law.specs.declared.command.Cmd.{Cmd}
 use Rattle.reql_law.specs.declared.command.Cmd.TheVariants as cmds
 use Rattle.reql_law.specs.declared.command.Entry.{Entry}
-use Rattle.reql_law.specs.declared.judging.Row.{Row}
+use Rattle.reql_law.specs.declared.row.Row.{Row}
 
 -- a further entry is one step more
 pub replay_on : (t : Table) (es : List Entry) (e : Entry) → replay_from t (es ++ e ∷ []) ≡ after (replay_from t es) e.by e.order

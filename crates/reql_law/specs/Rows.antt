@@ -3,11 +3,11 @@ use Rattle.std.specs.Prelude.{◌≡◌, ◌≤◌, List, length}
 use Rattle.std.specs.Map.{keys_of}
 use Rattle.reql_datum.specs.Plain.{Plain}
 use Rattle.reql_datum.specs.Order.{order}
-use Rattle.reql_datum.specs.Sorted.{IsGapBy}
+use Rattle.reql_memory.specs.Sorted.{IsGapBy}
 use Rattle.reql_datum.specs.View.{plain}
 use Rattle.reql_law.specs.Write.{Inserts, Errs, verdict}
 use Rattle.reql_law.specs.declared.command.WriteCmd.{WriteCmd}
-use Rattle.reql_law.specs.declared.judging.Row.{Row}
+use Rattle.reql_law.specs.declared.row.Row.{Row}
 use Rattle.reql_law.specs.declared.judging.Verdict.{Verdict}
 use Rattle.reql_law.specs.declared.judging.Verdict.TheVariants as found
 

@@ -1,49 +1,15 @@
 -- What a write does to the documents of a table, and what it reports (ReQL reference, insert).
-use Rattle.std.specs.Prelude.{ℕ, List, [], ◌∷◌, ◌++◌, Option, Some, None, is_some, Bool, true, false, ◌&&◌, cond, codes}
-use Rattle.reql_datum.specs.Plain.{Plain, low, array, boolean, null, number, object, binary, time, text, high, Plains, no_items, item, Pairs, no_pairs, pair, pairs_of}
+use Rattle.std.specs.Prelude.{ℕ, List, [], ◌∷◌, ◌++◌, Option, Some, None, is_some, cond, codes}
+use Rattle.reql_datum.specs.Plain.{Plain, object, pairs_of}
 use Rattle.reql_datum.specs.Order.{order}
 use Rattle.reql_datum.specs.Keys.{is_key}
+use Rattle.reql_datum.specs.Kinds.{type_name, is_storable}
 use Rattle.reql_datum.specs.Members.{find}
-use Rattle.reql_datum.specs.Sorted.{find_by, put_by}
+use Rattle.reql_memory.specs.Sorted.{find_by, put_by}
 use Rattle.reql_law.specs.declared.command.WriteCmd.{WriteCmd}
 use Rattle.reql_law.specs.declared.command.Summary.{Summary}
 use Rattle.reql_law.specs.declared.command.Cmd.{Cmd}
 use Rattle.reql_law.specs.declared.command.Cmd.TheVariants as cmds
-
--- the name of a value's type
-abbrev pub type_name : Plain → List ℕ
-type_name low = codes "MINVAL"
-type_name (array vs) = codes "ARRAY"
-type_name (boolean b) = codes "BOOL"
-type_name null = codes "NULL"
-type_name (number n) = codes "NUMBER"
-type_name (object ms) = codes "OBJECT"
-type_name (binary s) = codes "PTYPE<BINARY>"
-type_name (time t) = codes "PTYPE<TIME>"
-type_name (text s) = codes "STRING"
-type_name high = codes "MAXVAL"
-
--- whether neither MINVAL nor MAXVAL stands in a value
-abbrev mutual
-  pub is_storable : Plain → Bool
-  is_storable low = false
-  is_storable high = false
-  is_storable (array vs) = are_storable vs
-  is_storable (object ms) = are_members_storable ms
-  is_storable (boolean b) = true
-  is_storable null = true
-  is_storable (number n) = true
-  is_storable (binary s) = true
-  is_storable (time t) = true
-  is_storable (text s) = true
-
-  pub are_storable : Plains → Bool
-  are_storable no_items = true
-  are_storable (item v vs) = is_storable v && are_storable vs
-
-  pub are_members_storable : Pairs → Bool
-  are_members_storable no_pairs = true
-  are_members_storable (pair k v ms) = is_storable v && are_members_storable ms
 
 -- the texts of the errors of an insert
 abbrev pub misplaced : List ℕ

@@ -1,15 +1,4 @@
-use reql_datum::{Fields, Items, Name, Seq};
-
-/// A place in a table's history, with the number of single-document changes made before it.
-#[derive(Clone, Copy, Debug, PartialEq, Eq)]
-pub struct Point {
-    /// The number of the table's slot.
-    pub slot: u32,
-    /// How many entries the history holds there.
-    pub place: u64,
-    /// How many single-document changes these entries made.
-    pub stamp: u64,
-}
+use reql_datum::{Fields, Items, Name, Point, Seq};
 
 /// A write as the table is given it: its values are known, and nothing of it is left to be read.
 #[derive(Drop)]

@@ -3,7 +3,9 @@
 
 mod command;
 mod judging;
+mod row;
 mod table;
 
-pub use command::{Cmd, Entry, Order, Point, Reply, Said, Summary, WriteCmd};
+pub use command::{Cmd, Entry, Order, Reply, Said, Summary, WriteCmd};
+pub use reql_datum::Point;
 pub use table::{PlainTable, Seen};

@@ -3,15 +3,17 @@ ghost use Rattle.std.specs.Prelude.{◌≡◌, [], ◌∷◌, ◌++◌, is_ok, i
 ghost use Rattle.std.specs.List.{insert};
 ghost use Rattle.std.specs.Map.{keys_of};
 ghost use Rattle.reql_datum.specs.Order as orders;
-ghost use Rattle.reql_datum.specs.Sorted.{find_by, IsGapBy};
+ghost use Rattle.reql_memory.specs.Sorted.{find_by, IsGapBy};
 ghost use Rattle.reql_datum.specs.View.{plain};
 ghost use Rattle.reql_law.specs.Machine.{reply, replay};
 ghost use Rattle.reql_law.specs.Rows.{pair};
 ghost use Rattle.reql_law.specs.Write.{Inserts, Errs, verdict_of, inserted_by};
 
 use crate::command::{Cmd, Entry, Order, Reply, Said, Summary};
-use crate::judging::{Row, Verdict, doc_at, judge};
+use crate::judging::{Verdict, judge};
+use crate::row::Row;
 use reql_datum::{Datum, Items, Memory, Name, Refused};
+use reql_memory::sorted_map::{self, ByKey};
 use std::alloc::Global;
 use std::marker::Model;
 
@@ -74,7 +76,7 @@ impl PlainTable {
         Seen {
             place: self.history.len() as u64,
             stamp: self.stamp,
-            doc: doc_at(&self.rows, key),
+            doc: sorted_map::get(&self.rows, &ByKey { key }),
         }
     }
 
