@@ -8,7 +8,7 @@ use Rattle.reql_shared.specs.declared.view.View.{View}
 use Rattle.reql_memory.specs.declared.memory.Refused.{Refused}
 use Rattle.reql_shared.specs.History.{noted, own, Begins}
 use Rattle.reql_shared.specs.Machine.{Machine, replay}
-use Rattle.reql_shared.specs.Acts.{Act, Ran, Looked, Denied, place_of, entries_of, Answers, Acts}
+use Rattle.reql_shared.specs.Acts.{Act, Ran, Looked, Denied, place_of, entries_of, IsAnswered, Acts}
 use Rattle.reql_shared.specs.Rule.{caught, Entered, grown, released, sight}
 use Rattle.reql_shared.proofs.Histories.{own-append, none_added}
 
@@ -35,7 +35,7 @@ module _ {S C R Q A : Type 0} (machine : Machine S C R Q A) where
   own_entries number (Denied place) = refl
 
   acts_from : (id : TableId) (v : View C S) (log : List (Recorded C)) (act : Act C R Q A) → Begins v.seen log → own v.number log ≡ own v.number v.seen
-      → place_of act ≡ length log → Answers machine v.start log v.number act
+      → place_of act ≡ length log → IsAnswered machine v.start log v.number act
       → Acts machine (sight id v) (sight id (back v log (log ++ entries_of machine v.number act))) act
   acts_from id v log act p all at answers = record {
     others = p.0;
@@ -44,13 +44,13 @@ module _ {S C R Q A : Type 0} (machine : Machine S C R Q A) where
     theirs = none_added v.number v.seen p.0 (ap (own v.number) (sym p.1) ∙ all);
     seen = ap (λ l. l ++ entries_of machine v.number act) p.1;
     place = at ∙ ap length p.1;
-    answers = subst (λ h. Answers machine v.start h v.number act) p.1 answers;
+    answers = subst (λ h. IsAnswered machine v.start h v.number act) p.1 answers;
     mine = own-append v.number log (entries_of machine v.number act) ∙ (λ k. all k ++ own_entries v.number act k);
     marks = ap (λ k. v.marks ++ k ∷ []) (sym at);
   }
 
 module _ {S C R Q A D : Type 0} (machine : Machine S C R Q A) (lodges : S → List (Recorded C) → D → Type 0) (id now : TableId) (v : View C S) (m : Me D (View C S)) (w : View C S) (same : now ≡ id) (has : v.own ≡ true) (e : Entered lodges v m) where
-  became : (act : Act C R Q A) → w ≡ back v e.log (e.log ++ entries_of machine v.number act) → place_of act ≡ length e.log → Answers machine v.start e.log v.number act → Acts machine (sight id v) (sight now w) act
+  became : (act : Act C R Q A) → w ≡ back v e.log (e.log ++ entries_of machine v.number act) → place_of act ≡ length e.log → IsAnswered machine v.start e.log v.number act → Acts machine (sight id v) (sight now w) act
   became act is at answers =
       subst (λ (x : TableId × View C S). Acts machine (sight id v) (sight x.0 x.1) act) (λ k. (sym same k, sym is k))
       (acts_from machine id v e.log act e.prefix (e.all has) at answers)

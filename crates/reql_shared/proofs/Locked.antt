@@ -11,7 +11,7 @@ use Rattle.reql_shared.specs.declared.recorded.Recorded.{Recorded}
 use Rattle.reql_shared.specs.declared.view.View.{View}
 use Rattle.reql_shared.specs.declared.view.Lodged.{Lodged}
 use Rattle.reql_shared.specs.History.{noted, own, AllBelow}
-use Rattle.reql_shared.specs.Rule.{Fits, Kept, BothNumbered, BothHold, BothMake, Unique, maker, made_one, new_pass, caught, Takes, Counts, longer_by, add_asked, Appends, released, Gives}
+use Rattle.reql_shared.specs.Rule.{Agrees, Kept, BothNumbered, BothHold, BothMake, Unique, maker, made_one, new_pass, caught, Takes, Counts, longer_by, add_asked, Appends, released, GivesBack}
 use Rattle.reql_shared.proofs.Histories.{off, own-append, not_other, below_none, below_end, below_more}
 use Rattle.reql_shared.proofs.Views.{unique_set, unique_same, unique_end, all_set, all_end}
 
@@ -34,7 +34,7 @@ module _ {C S : Type 0} where
       low = tt;
       home = λ _. (d, refl, ok);
       free = λ _ i v e. here (λ u. u.holds ≡ false) refl i v e;
-      each = here (Fits start passes 0 []) (record { prefix = ([], refl); started = λ _. refl; most = λ _. refl; all = λ o. absurd (off o); low = λ o. absurd (off o); whole = λ o. absurd (off o); makes = λ _. refl; told = λ o. absurd (off o) });
+      each = here (Agrees start passes 0 []) (record { prefix = ([], refl); started = λ _. refl; most = λ _. refl; all = λ o. absurd (off o); low = λ o. absurd (off o); whole = λ o. absurd (off o); makes = λ _. refl; told = λ o. absurd (off o) });
       apart = lone BothNumbered;
       alone = lone BothHold;
       one = lone BothMake;
@@ -60,9 +60,9 @@ module _ {C S : Type 0} where
       low = below_more h.next (suc h.next) h.log h.low (omega arith);
       home = h.home;
       free = λ z. all_end (λ u. u.holds ≡ false) (set s.views id w) a (all_set (λ u. u.holds ≡ false) s.views id w (h.free z) refl) refl;
-      each = all_end (Fits start passes (suc h.next) h.log) (set s.views id w) a
+      each = all_end (Agrees start passes (suc h.next) h.log) (set s.views id w) a
           (λ j u e. ⊎_elim
-          (λ (p : (j ≡ id) × (w ≡ u)). subst (Fits start passes (suc h.next) h.log) p.1 fits_w)
+          (λ (p : (j ≡ id) × (w ≡ u)). subst (Agrees start passes (suc h.next) h.log) p.1 fits_w)
           (λ (p : (j ≢ id) × (get_elem? s.views j ≡ some u)). raised u (h.each j u p.1) (λ m. p.0 (h.one j id u v p.1 at (m, is))))
           (at_set s.views id j w u e))
           fits_a;
@@ -86,19 +86,19 @@ module _ {C S : Type 0} where
         a : View C S
         a = new_pass v
 
-        mine : Fits start passes h.next h.log v
+        mine : Agrees start passes h.next h.log v
         mine = h.each id v at
 
         makes : v.next ≡ h.next
         makes = mine.makes is
 
-        fits_w : Fits start passes (suc h.next) h.log w
+        fits_w : Agrees start passes (suc h.next) h.log w
         fits_w = record { prefix = (h.log, refl); started = λ _. mine.started live; most = λ _. mine.most live; all = λ o. absurd (off o); low = λ o. absurd (off o); whole = λ o. absurd (off o); makes = λ _. ap suc makes; told = λ o. absurd (off o) }
 
-        fits_a : Fits start passes (suc h.next) h.log a
+        fits_a : Agrees start passes (suc h.next) h.log a
         fits_a = record { prefix = (h.log, refl); started = λ _. mine.started live; most = λ _. mine.most live; all = λ _. below_none h.next v.next h.log h.low (omega (arith, makes)); low = λ _. omega (arith, makes); whole = λ o. absurd (off o); makes = λ o. absurd (off o); told = λ o. absurd (off o) }
 
-        raised : (u : View C S) → Fits start passes h.next h.log u → (u.maker ≡ true → ⊥) → Fits start passes (suc h.next) h.log u
+        raised : (u : View C S) → Agrees start passes h.next h.log u → (u.maker ≡ true → ⊥) → Agrees start passes (suc h.next) h.log u
         raised u f never = record { prefix = f.prefix; started = f.started; most = f.most; all = f.all; low = λ o. let l = f.low o in omega arith; whole = f.whole; makes = λ m. absurd (never m); told = f.told }
 
     not_true : (b : Bool) → (b ≡ true → ⊥) → b ≡ false
@@ -113,13 +113,13 @@ module _ {C S : Type 0} where
       abbrev Tried : ℕ → Type 0
       Tried new = (w : View C S) × (a : Act D) × Valid s.homes [] a × Kept lodges start passes (stepped s 1 new id [] w a) × Takes lodges (v, []) (slice_index s.words 1) (w, carried_after [] a)
 
-      mine : Fits start passes h.next h.log v
+      mine : Agrees start passes h.next h.log v
       mine = h.each id v at
 
       is_lock : slice_index s.words 1 ≡ h.lock
       is_lock = ap (λ ws. slice_index ws 1) h.words
 
-      fits_caught : Fits start passes h.next h.log (caught v h.log)
+      fits_caught : Agrees start passes h.next h.log (caught v h.log)
       fits_caught = record { prefix = ([], sym (append-nil h.log)); started = mine.started; most = mine.most; all = λ _. refl; low = mine.low; whole = λ _. refl; makes = mine.makes; told = λ o. absurd (off o) }
 
       hit : slice_index s.words 1 ≡ 0 → (new : ℕ) → new ≢ 0 → Tried new
@@ -139,7 +139,7 @@ module _ {C S : Type 0} where
               low = h.low;
               home = λ z. absurd (ne z);
               free = λ z. absurd (ne z);
-              each = all_set (Fits start passes h.next h.log) s.views id w h.each fits_caught;
+              each = all_set (Agrees start passes h.next h.log) s.views id w h.each fits_caught;
               apart = unique_same BothNumbered s.views id v w h.apart at (λ u. ((λ r. r), (λ r. r)));
               alone = unique_set BothHold s.views id w h.alone (λ j u ne g. ((λ r. off (sym (free j u g) ∙ r.1)), (λ r. off (sym (free j u g) ∙ r.0))));
               one = unique_same BothMake s.views id v w h.one at (λ u. ((λ r. r), (λ r. r)));
@@ -206,7 +206,7 @@ module _ {C S : Type 0} where
     )
 
     pub gives_back : (start : S) (passes id : ℕ) (v : View C S) (d : D) → v.live ≡ true → v.holds ≡ true → lodges v.start v.seen d
-        → Allows (Kept lodges start passes) 1 id (v, (0, d) ∷ []) 1 (λ _. 0) (Gives (v, (0, d) ∷ []))
+        → Allows (Kept lodges start passes) 1 id (v, (0, d) ∷ []) 1 (λ _. 0) (GivesBack (v, (0, d) ∷ []))
     gives_back start passes id v d live held ok s h one at wide = (
       w,
       gives,
@@ -220,7 +220,7 @@ module _ {C S : Type 0} where
         low = h.low;
         home = λ _. (d, set_here s.homes 0 (some d) (omega arith), subst (λ (x : S × List (Recorded C)). lodges x.0 x.1 d) (λ k. (mine.started live k, mine.whole held k)) ok);
         free = λ _ j u g. ⊎_elim (λ (p : (j ≡ id) × (w ≡ u)). ap (λ (y : View C S). y.holds) (sym p.1)) (λ (p : (j ≢ id) × (get_elem? s.views j ≡ some u)). not_true u.holds (λ t. p.0 (h.alone j id u v p.1 at (t, held)))) (at_set s.views id j w u g);
-        each = λ j u g. ⊎_elim (λ (p : (j ≡ id) × (w ≡ u)). subst (Fits start passes h.next h.log) p.1 fits_w) (λ (p : (j ≢ id) × (get_elem? s.views j ≡ some u)). h.each j u p.1) (at_set s.views id j w u g);
+        each = λ j u g. ⊎_elim (λ (p : (j ≡ id) × (w ≡ u)). subst (Agrees start passes h.next h.log) p.1 fits_w) (λ (p : (j ≢ id) × (get_elem? s.views j ≡ some u)). h.each j u p.1) (at_set s.views id j w u g);
         apart = unique_same BothNumbered s.views id v w h.apart at (λ u. ((λ r. r), (λ r. r)));
         alone = unique_set BothHold s.views id w h.alone (λ j u ne g. ((λ r. off r.0), (λ r. off r.1)));
         one = unique_same BothMake s.views id v w h.one at (λ u. ((λ r. r), (λ r. r)));
@@ -231,10 +231,10 @@ module _ {C S : Type 0} where
         w : View C S
         w = released v
 
-        mine : Fits start passes h.next h.log v
+        mine : Agrees start passes h.next h.log v
         mine = h.each id v at
 
-        fits_w : Fits start passes h.next h.log w
+        fits_w : Agrees start passes h.next h.log w
         fits_w = record { prefix = mine.prefix; started = mine.started; most = mine.most; all = mine.all; low = mine.low; whole = λ o. absurd (off o); makes = mine.makes; told = λ o. absurd (off o) }
 
     pub takes_free_as : (start : S) (passes slots id : ℕ) (m : Me D (View C S)) → slots ≡ 1 → m.1 ≡ [] → m.0.live ≡ true
@@ -253,9 +253,9 @@ module _ {C S : Type 0} where
         subst (λ (x : ℕ). Allows (Kept lodges start passes) x id m 0 (λ n. n) (Counts m)) (sym one) (counts start passes id m.0 m.1 held)
 
     pub gives_as : (start : S) (passes slots id : ℕ) (m : Me D (View C S)) (d : D) → slots ≡ 1 → m.1 ≡ (0, d) ∷ [] → m.0.live ≡ true → m.0.holds ≡ true → lodges m.0.start m.0.seen d
-        → Allows (Kept lodges start passes) slots id m 1 (λ _. 0) (Gives m)
+        → Allows (Kept lodges start passes) slots id m 1 (λ _. 0) (GivesBack m)
     gives_as start passes slots id m d one has live held ok =
-        subst (λ (x : ℕ × List (ℕ × D)). Allows (Kept lodges start passes) x.0 id (m.0, x.1) 1 (λ _. 0) (Gives (m.0, x.1))) (λ k. (sym one k, sym has k)) (gives_back start passes id m.0 d live held ok)
+        subst (λ (x : ℕ × List (ℕ × D)). Allows (Kept lodges start passes) x.0 id (m.0, x.1) 1 (λ _. 0) (GivesBack (m.0, x.1))) (λ k. (sym one k, sym has k)) (gives_back start passes id m.0 d live held ok)
 
   module _ {E : Type 0} (lodges : S → List (Recorded C) → Lodged E C → Type 0) where
     pub adds_at : (start : S) (passes id : ℕ) (v : View C S) (d : Lodged E C) (c : Snapshot C) → v.holds ≡ true → v.own ≡ true → length v.seen + 1 < 2 ^ 64 → d.asked ≡ Some c
@@ -274,7 +274,7 @@ module _ {C S : Type 0} where
         home = λ z. absurd (off (sym (h.free z id v at) ∙ held));
         free = λ z. absurd (off (sym (h.free z id v at) ∙ held));
         each = λ j u g. ⊎_elim
-            (λ (p : (j ≡ id) × (w ≡ u)). subst (Fits start passes h.next log) p.1 fits_w)
+            (λ (p : (j ≡ id) × (w ≡ u)). subst (Agrees start passes h.next log) p.1 fits_w)
             (λ (p : (j ≢ id) × (get_elem? s.views j ≡ some u)). others u (h.each j u p.1) (λ o q. p.0 (h.apart j id u v p.1 at (o, has, sym q))) (λ o. p.0 (h.alone j id u v p.1 at (o, held))))
             (at_set s.views id j w u g);
         apart = unique_same BothNumbered s.views id v w h.apart at (λ u. ((λ r. r), (λ r. r)));
@@ -293,7 +293,7 @@ module _ {C S : Type 0} where
         w : View C S
         w = longer_by v e
 
-        mine : Fits start passes h.next h.log v
+        mine : Agrees start passes h.next h.log v
         mine = h.each id v at
 
         whole : v.seen ≡ h.log
@@ -305,10 +305,10 @@ module _ {C S : Type 0} where
         count : (length h.log + 1) % 2 ^ 64 ≡ length log
         count = omega (arith, room, ap length whole, length-append h.log (e ∷ []))
 
-        fits_w : Fits start passes h.next log w
+        fits_w : Agrees start passes h.next log w
         fits_w = record { prefix = ([], ap (λ l. l ++ e ∷ []) (sym whole) ∙ sym (append-nil (v.seen ++ e ∷ []))); started = mine.started; most = mine.most; all = λ _. ap (λ l. own v.number (l ++ e ∷ [])) (sym whole); low = mine.low; whole = λ _. ap (λ l. l ++ e ∷ []) whole; makes = mine.makes; told = λ o. absurd (off o) }
 
-        others : (u : View C S) → Fits start passes h.next h.log u → (u.own ≡ true → v.number ≢ u.number) → (u.holds ≡ true → ⊥) → Fits start passes h.next log u
+        others : (u : View C S) → Agrees start passes h.next h.log u → (u.own ≡ true → v.number ≢ u.number) → (u.holds ≡ true → ⊥) → Agrees start passes h.next log u
         others u f other not = record {
           prefix = (f.prefix.0 ++ e ∷ [], ap (λ l. l ++ e ∷ []) f.prefix.1 ∙ append_assoc u.seen f.prefix.0 (e ∷ []));
           started = f.started;

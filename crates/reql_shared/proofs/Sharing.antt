@@ -7,14 +7,14 @@ use Rattle.atomic_table.proofs.Lists.{at_set, set_again}
 use Rattle.reql_shared.specs.declared.recorded.Recorded.{Recorded}
 use Rattle.reql_shared.specs.declared.view.View.{View}
 use Rattle.reql_shared.specs.History.{own, Begins}
-use Rattle.reql_shared.specs.Rule.{Fits, Kept, BothNumbered, BothHold, BothMake, maker, made_one, new_pass, spent, note, heard, taken, settled, Learns, parted, kept_back, newcomer}
+use Rattle.reql_shared.specs.Rule.{Agrees, Kept, BothNumbered, BothHold, BothMake, maker, made_one, new_pass, spent, note, heard, taken, settled, Settles, parted, kept_back, newcomer}
 use Rattle.reql_shared.proofs.Histories.{off, longer_begins, longer_left, longer_right, longer_whole, own_between}
 use Rattle.reql_shared.proofs.Views.{unique_set, unique_end, all_set, all_end, set_comm}
 use Rattle.reql_shared.proofs.Locked.{self_zero, numbers}
 
 module _ {C S D : Type 0} (lodges : S → List (Recorded C) → D → Type 0) where
   -- one view changes
-  revise : (start : S) (passes : ℕ) (s : State D (View C S)) (id : ℕ) (w : View C S) (h : Kept lodges start passes s) → Fits start passes h.next h.log w
+  revise : (start : S) (passes : ℕ) (s : State D (View C S)) (id : ℕ) (w : View C S) (h : Kept lodges start passes s) → Agrees start passes h.next h.log w
       → ((j : ℕ) (u : View C S) → j ≢ id → get_elem? s.views j ≡ some u → (BothNumbered w u → ⊥) × (BothNumbered u w → ⊥))
       → ((j : ℕ) (u : View C S) → j ≢ id → get_elem? s.views j ≡ some u → (BothHold w u → ⊥) × (BothHold u w → ⊥))
       → ((j : ℕ) (u : View C S) → j ≢ id → get_elem? s.views j ≡ some u → (BothMake w u → ⊥) × (BothMake u w → ⊥))
@@ -29,14 +29,14 @@ module _ {C S D : Type 0} (lodges : S → List (Recorded C) → D → Type 0) wh
     low = h.low;
     home = h.home;
     free = λ z. all_set (λ u. u.holds ≡ false) s.views id w (h.free z) (f z);
-    each = all_set (Fits start passes h.next h.log) s.views id w h.each fits;
+    each = all_set (Agrees start passes h.next h.log) s.views id w h.each fits;
     apart = unique_set BothNumbered s.views id w h.apart a;
     alone = unique_set BothHold s.views id w h.alone b;
     one = unique_set BothMake s.views id w h.one m;
   }
 
   -- a new view
-  adjoin : (start : S) (passes : ℕ) (s : State D (View C S)) (w : View C S) (h : Kept lodges start passes s) → Fits start passes h.next h.log w
+  adjoin : (start : S) (passes : ℕ) (s : State D (View C S)) (w : View C S) (h : Kept lodges start passes s) → Agrees start passes h.next h.log w
       → ((j : ℕ) (u : View C S) → get_elem? s.views j ≡ some u → (BothNumbered w u → ⊥) × (BothNumbered u w → ⊥))
       → w.holds ≡ false → w.maker ≡ false
       → Kept lodges start passes record { words = s.words; homes = s.homes; views = s.views ++ w ∷ [] }
@@ -49,7 +49,7 @@ module _ {C S D : Type 0} (lodges : S → List (Recorded C) → D → Type 0) wh
     low = h.low;
     home = h.home;
     free = λ z. all_end (λ u. u.holds ≡ false) s.views w (h.free z) b;
-    each = all_end (Fits start passes h.next h.log) s.views w h.each fits;
+    each = all_end (Agrees start passes h.next h.log) s.views w h.each fits;
     apart = unique_end BothNumbered s.views w h.apart a;
     alone = unique_end BothHold s.views w h.alone (λ j u e. ((λ r. off (sym b ∙ r.0)), (λ r. off (sym b ∙ r.1))));
     one = unique_end BothMake s.views w h.one (λ j u e. ((λ r. off (sym m ∙ r.0)), (λ r. off (sym m ∙ r.1))));
@@ -77,13 +77,13 @@ module _ {C S D : Type 0} (lodges : S → List (Recorded C) → D → Type 0) wh
       u : View C S
       u = heard v w
 
-      fits_v : Fits start passes h.next h.log v
+      fits_v : Agrees start passes h.next h.log v
       fits_v = h.each id v at
 
       at_w : get_elem? s.views other ≡ some w
       at_w = ⊎_elim (λ (p : (other ≡ id) × (u ≡ w)). absurd (ne p.0)) (λ (p : (other ≢ id) × (get_elem? s.views other ≡ some w)). p.1) (at_set s.views id other u w there)
 
-      fits_w : Fits start passes h.next h.log w
+      fits_w : Agrees start passes h.next h.log w
       fits_w = h.each other w at_w
 
       s1 : State D (View C S)
@@ -99,7 +99,7 @@ module _ {C S D : Type 0} (lodges : S → List (Recorded C) → D → Type 0) wh
       long : Begins u.seen h.log
       long = longer_begins v.seen w.seen h.log fits_v.prefix fits_w.prefix
 
-      fits_u : Fits start passes h.next h.log u
+      fits_u : Agrees start passes h.next h.log u
       fits_u = record {
         prefix = long;
         started = fits_v.started;
@@ -120,7 +120,7 @@ module _ {C S D : Type 0} (lodges : S → List (Recorded C) → D → Type 0) wh
           (at_set s.views other j (spent nowhere) x e)
 
   -- what was joined is told
-  pub learns : (start : S) (passes id : ℕ) (m : Me D (View C S)) → Allows (Kept lodges start passes) 1 id m 0 (λ n. n) (Learns m)
+  pub learns : (start : S) (passes id : ℕ) (m : Me D (View C S)) → Allows (Kept lodges start passes) 1 id m 0 (λ n. n) (Settles m)
   learns start passes id m s h one at wide = (
     w,
     keeps,
@@ -138,7 +138,7 @@ module _ {C S D : Type 0} (lodges : S → List (Recorded C) → D → Type 0) wh
       w : View C S
       w = settled m.0
 
-      fits : Fits start passes h.next h.log m.0
+      fits : Agrees start passes h.next h.log m.0
       fits = h.each id m.0 at
 
   -- the seat that has the lock takes in a pass
@@ -155,13 +155,13 @@ module _ {C S D : Type 0} (lodges : S → List (Recorded C) → D → Type 0) wh
       u : View C S
       u = taken v w
 
-      fits_v : Fits start passes h.next h.log v
+      fits_v : Agrees start passes h.next h.log v
       fits_v = h.each id v at
 
       at_w : get_elem? s.views other ≡ some w
       at_w = ⊎_elim (λ (p : (other ≡ id) × (u ≡ w)). absurd (ne p.0)) (λ (p : (other ≢ id) × (get_elem? s.views other ≡ some w)). p.1) (at_set s.views id other u w there)
 
-      fits_w : Fits start passes h.next h.log w
+      fits_w : Agrees start passes h.next h.log w
       fits_w = h.each other w at_w
 
       s1 : State D (View C S)
@@ -177,7 +177,7 @@ module _ {C S D : Type 0} (lodges : S → List (Recorded C) → D → Type 0) wh
       same : u.seen ≡ v.seen
       same = longer_whole v.seen w.seen (subst (Begins w.seen) (sym whole) fits_w.prefix)
 
-      fits_u : Fits start passes h.next h.log u
+      fits_u : Agrees start passes h.next h.log u
       fits_u = record {
         prefix = longer_begins v.seen w.seen h.log fits_v.prefix fits_w.prefix;
         started = fits_v.started;
@@ -216,7 +216,7 @@ module _ {C S D : Type 0} (lodges : S → List (Recorded C) → D → Type 0) wh
       (at_set s.views id j (kept_back v) x e))
       refl refl
     where
-      fits : Fits start passes h.next h.log v
+      fits : Agrees start passes h.next h.log v
       fits = h.each id v at
 
       s1 : State D (View C S)
@@ -230,8 +230,8 @@ module _ {C S D : Type 0} (lodges : S → List (Recorded C) → D → Type 0) wh
           (λ j u d e. ((λ r. d (sym (h.one id j v u at e r))), (λ r. d (h.one j id u v e at r))))
           (λ z. h.free z id v at)
 
-  pub learns_as : (start : S) (passes slots id : ℕ) (m : Me D (View C S)) → slots ≡ 1 → Allows (Kept lodges start passes) slots id m 0 (λ n. n) (Learns m)
-  learns_as start passes slots id m one = subst (λ (x : ℕ). Allows (Kept lodges start passes) x id m 0 (λ n. n) (Learns m)) (sym one) (learns start passes id m)
+  pub learns_as : (start : S) (passes slots id : ℕ) (m : Me D (View C S)) → slots ≡ 1 → Allows (Kept lodges start passes) slots id m 0 (λ n. n) (Settles m)
+  learns_as start passes slots id m one = subst (λ (x : ℕ). Allows (Kept lodges start passes) x id m 0 (λ n. n) (Settles m)) (sym one) (learns start passes id m)
 
   pub numbers_as : (start : S) (passes most id k : ℕ) (v : View C S) → v ≡ maker start most k → most ≡ passes → k < passes → Splits (Kept lodges start passes) id v (made_one v) (new_pass v)
   numbers_as start passes most id k v is same room =

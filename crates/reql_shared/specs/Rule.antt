@@ -14,23 +14,41 @@ use Rattle.reql_shared.specs.Machine.{Machine, replay}
 use Rattle.reql_shared.specs.Sight.{Sight, Closing}
 
 module _ {C S : Type 0} where
+  -- a seat that has seen nothing
+  abbrev pub newcomer : S → ℕ → View C S
+  newcomer start passes = record {
+    live = true;
+    start = start;
+    passes = passes;
+    seen = [];
+    own = false;
+    number = 0;
+    marks = [];
+    holds = false;
+    maker = false;
+    next = 0;
+    joined = false;
+    mine_old = [];
+    other_old = [];
+  }
+
   -- the first seat, which makes the passes
   abbrev pub maker : S → ℕ → ℕ → View C S
-  maker start passes next = record { live = true; start = start; passes = passes; seen = []; own = false; number = 0; marks = []; holds = false; maker = true; next = next; joined = false; mine_old = []; other_old = [] }
+  maker start passes next = let v = newcomer start passes in record v { maker = true; next = next }
 
   -- the maker after it has made one more pass, and that pass
   abbrev pub made_one : View C S → View C S
   made_one v = maker v.start v.passes (suc v.next)
 
   abbrev pub new_pass : View C S → View C S
-  new_pass v = record { live = true; start = v.start; passes = v.passes; seen = []; own = true; number = v.next; marks = []; holds = false; maker = false; next = 0; joined = false; mine_old = []; other_old = [] }
+  new_pass v = let w = newcomer v.start v.passes in record w { own = true; number = v.next }
 
   -- the lists that were joined begin what is seen now, which has no further entry of the view's number; what the holder had is the whole
   abbrev pub Told : View C S → Type 0
   Told v = Begins v.mine_old v.seen × Begins v.other_old v.seen × (v.own ≡ true → own v.number v.seen ≡ own v.number v.mine_old) × (v.holds ≡ true → v.seen ≡ v.other_old)
 
   -- what the rule says of one view
-  pub record Fits (start : S) (passes next : ℕ) (log : List (Recorded C)) (v : View C S) : Type 0 where
+  pub record Agrees (start : S) (passes next : ℕ) (log : List (Recorded C)) (v : View C S) : Type 0 where
     pub started : v.live ≡ true → v.start ≡ start
     pub most : v.live ≡ true → v.passes ≡ passes
     pub prefix : Begins v.seen log
@@ -67,14 +85,14 @@ module _ {C S : Type 0} where
     pub low : AllBelow next log
     pub home : lock ≡ 0 → (d : D) × (get_elem? s.homes 0 ≡ some (some d)) × lodges start log d
     pub free : lock ≡ 0 → (i : ℕ) (v : View C S) → get_elem? s.views i ≡ some v → v.holds ≡ false
-    pub each : (i : ℕ) (v : View C S) → get_elem? s.views i ≡ some v → Fits start passes next log v
+    pub each : (i : ℕ) (v : View C S) → get_elem? s.views i ≡ some v → Agrees start passes next log v
     pub apart : Unique BothNumbered s.views
     pub alone : Unique BothHold s.views
     pub one : Unique BothMake s.views
 
   -- the lock is taken at this history
   abbrev pub caught : View C S → List (Recorded C) → View C S
-  caught v log = record { live = v.live; start = v.start; passes = v.passes; seen = log; own = v.own; number = v.number; marks = v.marks ++ length log ∷ []; holds = true; maker = v.maker; next = v.next; joined = false; mine_old = []; other_old = [] }
+  caught v log = record v { seen = log; marks = v.marks ++ length log ∷ []; holds = true; joined = false; mine_old = []; other_old = [] }
 
   pub record Entered {D : Type 0} (lodges : S → List (Recorded C) → D → Type 0) (v : View C S) (r : Me D (View C S)) : Type 0 where
     pub engine : D
@@ -94,7 +112,7 @@ module _ {C S : Type 0} where
 
   -- the holder appends the command that lies in its slot
   abbrev pub longer_by : View C S → Recorded C → View C S
-  longer_by v e = record { live = v.live; start = v.start; passes = v.passes; seen = v.seen ++ e ∷ []; own = v.own; number = v.number; marks = v.marks; holds = v.holds; maker = v.maker; next = v.next; joined = false; mine_old = []; other_old = [] }
+  longer_by v e = record v { seen = v.seen ++ e ∷ []; joined = false; mine_old = []; other_old = [] }
 
   abbrev pub add_asked : View C S → Option (Snapshot C) → View C S
   add_asked v None = v
@@ -122,44 +140,40 @@ module _ {C S : Type 0} where
 
   -- the lock is given back
   abbrev pub released : View C S → View C S
-  released v = record { live = v.live; start = v.start; passes = v.passes; seen = v.seen; own = v.own; number = v.number; marks = v.marks; holds = false; maker = v.maker; next = v.next; joined = false; mine_old = []; other_old = [] }
+  released v = record v { holds = false; joined = false; mine_old = []; other_old = [] }
 
-  abbrev pub Gives : {D : Type 0} → Me D (View C S) → ℕ → Me D (View C S) → Type 0
-  Gives m found r = r ≡ (released m.0, [])
+  abbrev pub GivesBack : {D : Type 0} → Me D (View C S) → ℕ → Me D (View C S) → Type 0
+  GivesBack m found r = r ≡ (released m.0, [])
 
   -- a view that is used up
   abbrev pub spent : S → View C S
-  spent s = record { live = false; start = s; passes = 0; seen = []; own = false; number = 0; marks = []; holds = false; maker = false; next = 0; joined = false; mine_old = []; other_old = [] }
+  spent s = let v = newcomer s 0 in record v { live = false }
 
   -- what was seen, for another pass
   abbrev pub note : View C S → View C S
-  note v = record { live = v.live; start = v.start; passes = v.passes; seen = v.seen; own = false; number = 0; marks = []; holds = false; maker = false; next = 0; joined = false; mine_old = []; other_old = [] }
+  note v = record v { own = false; number = 0; marks = []; holds = false; maker = false; next = 0; joined = false; mine_old = []; other_old = [] }
 
   -- a pass takes in a note
   abbrev pub heard : View C S → View C S → View C S
-  heard v w = record { live = v.live; start = v.start; passes = v.passes; seen = longer v.seen w.seen; own = v.own; number = v.number; marks = v.marks; holds = v.holds; maker = v.maker; next = v.next; joined = true; mine_old = v.seen; other_old = w.seen }
+  heard v w = record v { seen = longer v.seen w.seen; joined = true; mine_old = v.seen; other_old = w.seen }
 
   -- the seat at the end takes in a pass
   abbrev pub taken : View C S → View C S → View C S
-  taken v w = record { live = v.live; start = v.start; passes = v.passes; seen = longer v.seen w.seen; own = w.own; number = w.number; marks = w.marks; holds = v.holds; maker = v.maker; next = v.next; joined = true; mine_old = w.seen; other_old = v.seen }
+  taken v w = record v { seen = longer v.seen w.seen; own = w.own; number = w.number; marks = w.marks; joined = true; mine_old = w.seen; other_old = v.seen }
 
   -- what the joined lists are is told
   abbrev pub settled : View C S → View C S
-  settled v = record { live = v.live; start = v.start; passes = v.passes; seen = v.seen; own = v.own; number = v.number; marks = v.marks; holds = v.holds; maker = v.maker; next = v.next; joined = false; mine_old = []; other_old = [] }
+  settled v = record v { joined = false; mine_old = []; other_old = [] }
 
-  abbrev pub Learns : {D : Type 0} → Me D (View C S) → ℕ → Me D (View C S) → Type 0
-  Learns m found r = (r ≡ (settled m.0, m.1)) × (m.0.joined ≡ true → Told m.0)
+  abbrev pub Settles : {D : Type 0} → Me D (View C S) → ℕ → Me D (View C S) → Type 0
+  Settles m found r = (r ≡ (settled m.0, m.1)) × (m.0.joined ≡ true → Told m.0)
 
   -- the pass comes out again, with all that the seat at the end has seen, and what that seat is left with
   abbrev pub parted : View C S → View C S
-  parted v = record { live = v.live; start = v.start; passes = v.passes; seen = v.seen; own = v.own; number = v.number; marks = v.marks; holds = false; maker = false; next = 0; joined = false; mine_old = []; other_old = [] }
+  parted v = record v { holds = false; maker = false; next = 0; joined = false; mine_old = []; other_old = [] }
 
   abbrev pub kept_back : View C S → View C S
-  kept_back v = record { live = v.live; start = v.start; passes = v.passes; seen = v.seen; own = false; number = 0; marks = []; holds = v.holds; maker = v.maker; next = v.next; joined = false; mine_old = []; other_old = [] }
-
-  -- a seat that has seen nothing
-  abbrev pub newcomer : S → ℕ → View C S
-  newcomer start passes = record { live = true; start = start; passes = passes; seen = []; own = false; number = 0; marks = []; holds = false; maker = false; next = 0; joined = false; mine_old = []; other_old = [] }
+  kept_back v = record v { own = false; number = 0; marks = []; joined = false; mine_old = []; other_old = [] }
 
   -- what contracts see of a pass whose seat has this view
   abbrev pub sight : TableId → View C S → Sight C S
@@ -189,7 +203,7 @@ module _ {E C S : Type 0} where
 
 module _ {C S : Type 0} where
   -- The first pass has seen the longer of what both had seen, which the two begin. Its own entries and marks are as before.
-  pub record Hears (old other new : Sight C S) : Type 0 where
+  pub record Merges (old other new : Sight C S) : Type 0 where
     pub object : new.object ≡ old.object
     pub number : new.number ≡ old.number
     pub seen : new.seen ≡ longer old.seen other.seen

@@ -45,3 +45,6 @@ pub trait Engine {
     fn records(answered: &Self::Reply) -> bool
         ensures recorded { result ≡ machine.recorded answered.now };
 }
+/// The question that asks an engine for a look at all that it holds now.
+#[derive(Clone, Copy, Debug, PartialEq, Eq)]
+pub struct Snap;

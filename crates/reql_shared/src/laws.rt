@@ -1,10 +1,12 @@
 // What holds of all acts, whatever the engine: laws for those who tell what a pass did over several calls.
-ghost use Rattle.std.specs.Prelude.{◌≤◌, List, [], ◌∷◌, ◌++◌};
+ghost use Rattle.std.specs.Prelude.{◌≡◌, List, [], ◌∷◌, ◌++◌, length};
+ghost use Rattle.std.specs.List.{AllByRecursion};
 ghost use Rattle.reql_shared.specs.declared.recorded.Recorded.{Recorded};
-ghost use Rattle.reql_shared.specs.History.{Begins};
-ghost use Rattle.reql_shared.specs.Sight.{Sight, Learns};
-ghost use Rattle.reql_shared.specs.Acts.{Act, Acts, Plays};
-ghost use Rattle.reql_shared.specs.Parts.{Part, between, beside, joined, Follows, IsPart};
+ghost use Rattle.reql_shared.specs.History.{Begins, own};
+ghost use Rattle.reql_shared.specs.Sight.{Sight, Learns, mine};
+ghost use Rattle.reql_shared.specs.Acts.{Act, Acts, Stands, entries};
+ghost use Rattle.reql_shared.specs.Plays.{Plays, Climbs};
+ghost use Rattle.reql_shared.specs.Parts.{Part, between, Lies, Follows, joined, IsPart};
 
 use crate::engine::Engine;
 
@@ -23,14 +25,27 @@ pub fn plays_follow_each_other<E: Engine>()
     ensures { (old now new : Sight E.Cmd E.State) (first second : List (Act E.Cmd E.Reply E.Question E.Answer)) → Plays E.machine old now first → Plays E.machine now new second → Plays E.machine old new (first ++ second) }
 {}
 
-/// What a pass played from one moment to a later one is a part.
-pub fn plays_are_parts<E: Engine>()
-    ensures { (old new : Sight E.Cmd E.State) (acts : List (Act E.Cmd E.Reply E.Question E.Answer)) → Plays E.machine old new acts → IsPart E.machine (between old new) acts }
+/// What a play leaves: the pass's own entries are its recorded commands, each once and in order; each act stands at its
+/// place of the history, answered there as the machine answers; and the places climb past each recorded command.
+pub fn plays_stand<E: Engine>()
+    ensures own { (old new : Sight E.Cmd E.State) (acts : List (Act E.Cmd E.Reply E.Question E.Answer)) → Plays E.machine old new acts → mine new ≡ mine old ++ entries E.machine old.number acts }
+    ensures stand { (old new : Sight E.Cmd E.State) (acts : List (Act E.Cmd E.Reply E.Question E.Answer)) → Plays E.machine old new acts → AllByRecursion (Stands E.machine old.object.start old.number new.seen) acts × Climbs E.machine old.number (length old.seen) acts (length new.seen) }
 {}
 
-/// A part stays one when its history goes on.
-pub fn parts_stand_beside_longer_histories<E: Engine>()
-    ensures { (part : Part E.Cmd E.State) (acts : List (Act E.Cmd E.Reply E.Question E.Answer)) (history : List (Recorded E.Cmd)) → Begins part.history history → IsPart E.machine part acts → IsPart E.machine (beside part history) acts }
+/// What a pass played from one moment to a later one is a part, which lies in what it has seen then.
+pub fn plays_are_parts<E: Engine>()
+    ensures part { (old new : Sight E.Cmd E.State) (acts : List (Act E.Cmd E.Reply E.Question E.Answer)) → Plays E.machine old new acts → IsPart E.machine (between old new) acts }
+    ensures lies { (old new : Sight E.Cmd E.State) (acts : List (Act E.Cmd E.Reply E.Question E.Answer)) → Plays E.machine old new acts → Lies (between old new) new.seen }
+{}
+
+/// A part's own entries are its recorded commands, each once and in order.
+pub fn parts_own_their_commands<E: Engine>()
+    ensures { (part : Part E.Cmd E.State) (acts : List (Act E.Cmd E.Reply E.Question E.Answer)) → IsPart E.machine part acts → own part.number part.during ≡ entries E.machine part.number acts }
+{}
+
+/// A part that lies in a history lies in each that begins with it.
+pub fn parts_lie_in_longer_histories<E: Engine>()
+    ensures { (part : Part E.Cmd E.State) (history longer : List (Recorded E.Cmd)) → Begins history longer → Lies part history → Lies part longer }
 {}
 
 /// Two parts, of which the second is later, are one part together.

@@ -54,7 +54,7 @@ fn wait_for_lock<E: Engine, R: Wait>(
     unreachable!()
 }
 
-// Gives the lock back with the engine, and wakes a thread if one may wait.
+// GivesBack the lock back with the engine, and wakes a thread if one may wait.
 pub fn give_lock<E: Engine>(
     board: &Board<Lodged<E, E::Cmd>, View<E::Cmd, E::State>, Origin<E>, OneHistory<E>>,
     seat: &mut Seat<Lodged<E, E::Cmd>, View<E::Cmd, E::State>>,

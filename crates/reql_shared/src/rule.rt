@@ -1,5 +1,5 @@
 // The rule of the table that a shared engine lies in, and the steps on it.
-ghost use Rattle.reql_shared.specs.Rule.{Kept, maker, Lodges, Takes, Counts, Appends, Gives, made_one, new_pass, note, spent, heard, taken, Learns, parted, kept_back, newcomer};
+ghost use Rattle.reql_shared.specs.Rule.{Kept, maker, Lodges, Takes, Counts, Appends, GivesBack, made_one, new_pass, note, spent, heard, taken, Settles, parted, kept_back, newcomer};
 ghost use Rattle.std.specs.Prelude.{◌≡◌, []};
 
 use crate::engine::Engine;
@@ -53,7 +53,7 @@ impl<E, C, S> Play<Lodged<E, C>, View<C, S>> for Append {
 pub struct GiveLock;
 
 impl<E, C, S> Play<Lodged<E, C>, View<C, S>> for GiveLock {
-    ghost then = { λ _ m n r. Gives m n r };
+    ghost then = { λ _ m n r. GivesBack m n r };
 }
 
 /// Numbers a pass.
@@ -100,7 +100,7 @@ impl<E: Engine> Join<View<E::Cmd, E::State>> for TakeIn<E> {
 pub struct Learn;
 
 impl<E, C, S> Play<Lodged<E, C>, View<C, S>> for Learn {
-    ghost then = { λ _ m n r. Learns m n r };
+    ghost then = { λ _ m n r. Settles m n r };
 }
 
 /// The pass comes out again, with all that the seat at the end has seen.

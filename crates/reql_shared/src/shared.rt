@@ -3,7 +3,7 @@ ghost use Rattle.std.specs.List.{range_with_len};
 ghost use Rattle.reql_shared.specs.History.{longer, AllBelow};
 ghost use Rattle.reql_shared.specs.Machine.{replay};
 ghost use Rattle.reql_shared.specs.Sight.{unused, unused_passes, Learns};
-ghost use Rattle.reql_shared.specs.Rule.{maker, Hears};
+ghost use Rattle.reql_shared.specs.Rule.{maker, Merges};
 
 use crate::engine::Engine;
 use crate::last::Final;
@@ -73,7 +73,7 @@ impl<E: Engine + Drop> Shared<E> {
     fn hear(&self, a: &mut Pass<E>, b: &mut Pass<E>)
         requires a_of_this_engine { a.old.object ≡ self.now }
         requires b_of_this_engine { b.old.object ≡ self.now }
-        ensures a { Hears a.old b.old a.new }
+        ensures a { Merges a.old b.old a.new }
         ensures b { b.new ≡ b.old }
     {
         let board = &self.table.shared;
