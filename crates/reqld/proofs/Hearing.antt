@@ -2,10 +2,11 @@
 use Rattle.std.proofs.Common.{◌≡◌, ℕ, ◌+◌, ◌-◌, ◌≤◌, ◌<◌, inl, inr, List, [], ◌++◌, length, take, drop, Bool, true, refl, sym, ap, subst, ◌∙◌, arith, append-nil, add-zero, length-append}
 use Rattle.std.proofs.lemmas.List.{take-append-drop, drop-take}
 use Rattle.std.proofs.Math.Seq.{drop-append-add}
-use Rattle.reql_outside.specs.Tape.{Tape, Moves}
-use Rattle.reql_outside.proofs.Moving.{moves_on, moves_next, rose_later}
+use Rattle.reql_outside.specs.Tape.{Tape, Moves, recv_failed, send_failed}
+use Rattle.reql_outside.proofs.Moving.{moves_on, moves_next, recv_failed_first, send_failed_first}
 use Rattle.reql_wire.specs.Greeting.{greeting_bytes, accepted, refusal}
 use Rattle.reql_wire.specs.declared.greeter.GreetFault.TheVariants as faults
+use Rattle.reqld.specs.Endings.{BreaksOff}
 use Rattle.reqld.specs.Greeted.{AreAccepted, EndsEarly, GreetsWith, Waits, Hears, Accepting, Refusing}
 use Rattle.reqld.specs.declared.ending.End.{End}
 use Rattle.reqld.specs.declared.ending.End.TheVariants as ends
@@ -56,7 +57,7 @@ waits_worn a b h turns w = record {
   said = [];
   idles = w.idles;
   moves = over_now a b h [] w.idles a.over w.moves;
-  why = (w.moves.ended, inl (w.short, refl));
+  why = (w.moves.ended, refl);
   worn = λ e. omega (arith, w.pays);
 }
 
@@ -86,8 +87,8 @@ ended_after a b c h k held used turns ends.ReadFault w x = record {
   heard = h;
   said = [];
   idles = w.idles;
-  moves = quiet a b c h w.idles a.over b.over w.moves x.0;
-  why = (x.0.ended ∙ w.moves.ended, w.short, rose_later _ _ _ w.moves.in_later x.1, refl);
+  moves = quiet (recv_failed a) (recv_failed b) c h w.idles a.over b.over (recv_failed_first a b h [] w.idles a.over w.moves) x;
+  why = (x.ended ∙ w.moves.ended, w.short, refl);
   worn = λ e. absurd (let f : ends.ReadFault ≡ ends.Worn = e in cc);
 }
 ended_after a b c h k held used turns ends.Memory w x = record {
@@ -95,13 +96,17 @@ ended_after a b c h k held used turns ends.Memory w x = record {
   said = [];
   idles = w.idles;
   moves = over_now a c (h ++ x.0) [] w.idles a.over (then_heard a b c h x.0 w.idles w.moves x.1);
-  why = (x.1.ended ∙ w.moves.ended, inr (inl (x.2, (accepted, refl))));
+  why = (x.1.ended ∙ w.moves.ended, refl);
   worn = λ e. absurd (let f : ends.Memory ≡ ends.Worn = e in cc);
 }
 ended_after a b c h k held used turns ends.Refused w x = absurd x
 ended_after a b c h k held used turns (ends.TooLong n) w x = absurd x
 ended_after a b c h k held used turns ends.WriteFault w x = absurd x
 ended_after a b c h k held used turns ends.Worn w x = absurd x
+
+-- an answer of which something is left breaks off
+breaks_off : (out front back : List ℕ) → out ≡ front ++ back → 0 < length back → BreaksOff front out out
+breaks_off out front back e some = (back, e, some, omega (arith, ap length e, length-append front back))
 
 pub accepted_after : (a b c d : Tape) (h k held : List ℕ) (used turns : ℕ) (r : Greeted) → used < turns → Waits a b h used → Hears b c h k held heard.Accepted → Accepting c d (turns - used - 1) r → GreetsWith a d held turns r
 accepted_after a b c d h k held used turns (greeted.Accepted l) lt w x y = record {
@@ -117,8 +122,8 @@ accepted_after a b c d h k held used turns (greeted.Ended ends.WriteFault) lt w 
       heard = h ++ x.0;
       said = y.0;
       idles = w.idles;
-      moves = over_now a d (h ++ x.0) y.0 w.idles a.over (then_said a c d (h ++ x.0) [] y.0 w.idles m y.3);
-      why = (y.3.ended ∙ m.ended, rose_later _ _ _ m.out_later y.4, inr (inl (accepted_by (h ++ x.0) held x.2, (y.1, y.2))));
+      moves = over_now (send_failed a) d (h ++ x.0) y.0 w.idles a.over (then_said (send_failed a) (send_failed c) d (h ++ x.0) [] y.0 w.idles (send_failed_first a c (h ++ x.0) [] w.idles a.over m) y.4);
+      why = (y.4.ended ∙ m.ended, inl (accepted_by (h ++ x.0) held x.2, breaks_off accepted y.0 y.1 y.2 y.3));
       worn = λ e. absurd (let f : ends.WriteFault ≡ ends.Worn = e in cc);
     }
 accepted_after a b c d h k held used turns (greeted.Ended ends.Worn) lt w x y =
@@ -128,7 +133,7 @@ accepted_after a b c d h k held used turns (greeted.Ended ends.Worn) lt w x y =
       said = [];
       idles = w.idles;
       moves = over_now a d (h ++ x.0) [] w.idles a.over (then_said a c d (h ++ x.0) [] [] w.idles m y.1);
-      why = (y.1.ended ∙ m.ended, inr (inl (accepted_by (h ++ x.0) held x.2, (accepted, refl))));
+      why = (y.1.ended ∙ m.ended, refl);
       worn = λ e. omega (arith, w.pays, y.0, length-append h x.0);
     }
 accepted_after a b c d h k held used turns (greeted.Ended ends.Closed) lt w x y = absurd y
@@ -156,8 +161,8 @@ refused_after a b c d h k held used turns (greeted.Ended ends.WriteFault) lt w x
       heard = h ++ x.0;
       said = y.0;
       idles = w.idles;
-      moves = over_now a d (h ++ x.0) y.0 w.idles a.over (then_said a c d (h ++ x.0) [] y.0 w.idles m y.3);
-      why = (y.3.ended ∙ m.ended, rose_later _ _ _ m.out_later y.4, inr (inr (x.2, (y.1, y.2))));
+      moves = over_now (send_failed a) d (h ++ x.0) y.0 w.idles a.over (then_said (send_failed a) (send_failed c) d (h ++ x.0) [] y.0 w.idles (send_failed_first a c (h ++ x.0) [] w.idles a.over m) y.4);
+      why = (y.4.ended ∙ m.ended, inr (x.2, breaks_off (refusal faults.NotBuilt) y.0 y.1 y.2 y.3));
       worn = λ e. absurd (let f : ends.WriteFault ≡ ends.Worn = e in cc);
     }
 refused_after a b c d h k held used turns (greeted.Ended ends.Worn) lt w x y =
@@ -167,7 +172,7 @@ refused_after a b c d h k held used turns (greeted.Ended ends.Worn) lt w x y =
       said = [];
       idles = w.idles;
       moves = over_now a d (h ++ x.0) [] w.idles a.over (then_said a c d (h ++ x.0) [] [] w.idles m y.1);
-      why = (y.1.ended ∙ m.ended, inr (inr (x.2, (refusal faults.NotBuilt, refl))));
+      why = (y.1.ended ∙ m.ended, refl);
       worn = λ e. omega (arith, w.pays, y.0, length-append h x.0);
     }
 refused_after a b c d h k held used turns (greeted.Ended ends.Closed) lt w x y = absurd y

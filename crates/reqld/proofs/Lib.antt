@@ -1,6 +1,5 @@
 pub mod Reading
 pub mod Summaries
-pub mod Atoms
 pub mod Joined
 pub mod Turning
 pub mod Hearing

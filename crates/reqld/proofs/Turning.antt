@@ -1,12 +1,12 @@
 -- What one turn does: a frame that is handled, or a piece that is received.
 use Rattle.std.proofs.Common.{◌≡◌, ℕ, List, [], ◌∷◌, ◌++◌, length, Option, Some, None, refl, sym, ap, subst, ◌∙◌, arith, append-nil, length-append}
-use Rattle.reql_outside.specs.Tape.{Tape, Moves}
+use Rattle.reql_outside.specs.Tape.{Tape, Moves, recv_failed, send_failed}
 use Rattle.reql_wire.specs.Frames.{Fits, NoFrame, More, front, header, spelling, spellings}
 use Rattle.reql_wire.specs.Feeding.{Holding}
 use Rattle.reql_wire.proofs.Fronts.{length-header}
 use Rattle.reql_wire.specs.declared.frame.Frame.{Frame}
 use Rattle.reql_law.specs.declared.command.Entry.{Entry}
-use Rattle.reqld.specs.Turns.{internal_frame, World, Runs, Turned, OneAnswer, Said, SaysInternal, Received, Handles, Serves}
+use Rattle.reqld.specs.Turns.{World, Runs, Turned, OneAnswer, Said, Received, Handles, Serves}
 use Rattle.reqld.specs.declared.ending.End.{End}
 use Rattle.reqld.specs.declared.ending.End.TheVariants as ends
 use Rattle.reqld.proofs.Joined.{runs_end}
@@ -21,17 +21,6 @@ handled table old new h g m a (Some (ends.TooLong n)) one s = absurd s
 handled table old new h g m a (Some ends.ReadFault) one s = absurd s
 handled table old new h g m a (Some ends.Worn) one s = absurd s
 handled table old new h g m a (Some ends.Memory) one s = absurd s
-
-pub handled_internal : (table : List ℕ) (old new : Tape) (h g : List Entry) (m : Frame) (r : Option End) → OneAnswer table h m (internal_frame m) g → SaysInternal old new m.token r → Handles table old new h g m r
-handled_internal table old new h g m None one s = (internal_frame m, one, s)
-handled_internal table old new h g m (Some ends.WriteFault) one s = (internal_frame m, one, s)
-handled_internal table old new h g m (Some ends.Memory) one s = (one, s)
-handled_internal table old new h g m (Some ends.Closed) one s = absurd s
-handled_internal table old new h g m (Some (ends.Cut n)) one s = absurd s
-handled_internal table old new h g m (Some ends.Refused) one s = absurd s
-handled_internal table old new h g m (Some (ends.TooLong n)) one s = absurd s
-handled_internal table old new h g m (Some ends.ReadFault) one s = absurd s
-handled_internal table old new h g m (Some ends.Worn) one s = absurd s
 
 -- one frame as a list of one
 one_held : (a b : List ℕ) (m : Frame) → a ≡ spelling m ++ b → a ++ [] ≡ spellings (m ∷ []) ++ b
@@ -57,40 +46,29 @@ turn_frame table a b m None h f l x = record {
   limit = l;
   pays = omega (arith, length-append (spelling m) [], length-append (header m.token (length m.body)) m.body, length-header m.token (length m.body));
 }
-turn_frame table a b m (Some ends.WriteFault) h f l x = record {
-  heard = [];
-  said = x.2.0;
-  idles = 0;
-  frames = m ∷ [];
-  answers = x.0 ∷ [];
-  rest = b.holding.held;
-  moves = subst (λ o. Moves a.tape b.tape [] x.2.0 0 o) (sym x.2.3.ended) x.2.3;
-  bytes = one_held a.holding.held b.holding.held m h;
-  each = (f, tt);
-  output = (x.2.1, one_said x.0 ∙ x.2.2);
-  answered = x.1;
-  why = (x.2.3.ended, x.2.4);
-}
-turn_frame table a b m (Some ends.Memory) h f l x = record {
-  heard = [];
-  said = [];
-  idles = 0;
-  frames = m ∷ [];
-  answers = internal_frame m ∷ [];
-  rest = b.holding.held;
-  moves = subst (λ o. Moves a.tape b.tape [] [] 0 o) (sym x.1.ended) x.1;
-  bytes = one_held a.holding.held b.holding.held m h;
-  each = (f, tt);
-  output = (spellings (internal_frame m ∷ []), refl);
-  answered = x.0;
-  why = x.1.ended;
-}
+turn_frame table a b m (Some ends.WriteFault) h f l x =
+    let text : spelling x.0 ≡ x.2.0 ++ x.2.1 = x.2.2 in
+    record {
+      heard = [];
+      said = x.2.0;
+      idles = 0;
+      frames = m ∷ [];
+      answers = x.0 ∷ [];
+      rest = b.holding.held;
+      moves = subst (λ o. Moves (send_failed a.tape) b.tape [] x.2.0 0 o) (sym x.2.4.ended) x.2.4;
+      bytes = one_held a.holding.held b.holding.held m h;
+      each = (f, tt);
+      output = (x.2.1, one_said x.0 ∙ text, x.2.3, omega (arith, ap length text, length-append x.2.0 x.2.1));
+      answered = x.1;
+      why = x.2.4.ended;
+    }
 turn_frame table a b m (Some ends.Closed) h f l x = absurd x.2
 turn_frame table a b m (Some (ends.Cut n)) h f l x = absurd x.2
 turn_frame table a b m (Some ends.Refused) h f l x = absurd x.2
 turn_frame table a b m (Some (ends.TooLong n)) h f l x = absurd x.2
 turn_frame table a b m (Some ends.ReadFault) h f l x = absurd x.2
 turn_frame table a b m (Some ends.Worn) h f l x = absurd x.2
+turn_frame table a b m (Some ends.Memory) h f l x = absurd x.2
 
 -- a piece that was received where no frame is held
 pub turn_received : (table : List ℕ) (a : World) (tape : Tape) (holding : Holding) (r : Option End) → front a.holding.limit a.holding.held ≡ More → NoFrame a.holding.limit a.holding.held
@@ -144,12 +122,12 @@ turn_received table a tape holding (Some ends.ReadFault) more none x = record {
   frames = [];
   answers = [];
   rest = a.holding.held;
-  moves = subst (λ o. Moves a.tape tape [] [] 0 o) (sym x.1.ended) x.1;
+  moves = subst (λ o. Moves (recv_failed a.tape) tape [] [] 0 o) (sym x.1.ended) x.1;
   bytes = append-nil a.holding.held;
   each = tt;
   output = refl;
   answered = refl;
-  why = (x.1.ended, more, none, x.2);
+  why = (x.1.ended, more, none);
 }
 turn_received table a tape holding (Some ends.Memory) more none x = record {
   heard = x.0;
@@ -161,7 +139,7 @@ turn_received table a tape holding (Some ends.Memory) more none x = record {
   moves = subst (λ o. Moves a.tape tape x.0 [] 0 o) (sym x.2.ended) x.2;
   bytes = refl;
   each = tt;
-  output = ([], refl);
+  output = refl;
   answered = refl;
   why = x.2.ended;
 }
@@ -183,7 +161,7 @@ worn table a b n p = (
     moves = subst (λ o. Moves a.tape b.tape p.heard p.said p.idles o) (sym p.moves.ended) p.moves;
     bytes = p.bytes;
     each = p.each;
-    output = ([], sym (append-nil p.said ∙ p.output));
+    output = p.output;
     answered = p.answered;
     why = p.moves.ended;
   },

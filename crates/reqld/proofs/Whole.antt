@@ -1,38 +1,37 @@
 -- A whole session: what ends before its first frame, and what comes after its greeting.
-use Rattle.std.proofs.Common.{◌≡◌, ℕ, ◌+◌, ◌^◌, ◌⊎◌, inl, inr, List, [], ◌++◌, length, drop, refl, sym, ap, subst, ◌∙◌, arith, append_assoc, length-append}
+use Rattle.std.proofs.Common.{◌≡◌, ℕ, ◌+◌, ◌^◌, ◌⊎◌, inl, inr, Bool, nat_eq, if◌then◌else◌, List, [], ◌++◌, length, drop, refl, sym, ap, subst, ◌∙◌, arith, append_assoc, length-append}
 use Rattle.std.proofs.lemmas.List.{take-append-drop}
-use Rattle.reql_outside.specs.Tape.{Tape, Moves, grown}
-use Rattle.reql_outside.proofs.Moving.{moves_on, rose_later}
+use Rattle.reql_outside.specs.Tape.{Tape, Moves, grown, counted}
 use Rattle.reql_wire.specs.Frames.{More, front, spellings}
 use Rattle.reql_wire.specs.Feeding.{Holding}
 use Rattle.reql_wire.specs.Greeting.{greeting_bytes, accepted}
 use Rattle.reql_wire.proofs.Fronts.{short_more, more_no_frame}
 use Rattle.reql_law.specs.declared.command.Entry.{Entry}
-use Rattle.reqld.specs.Greeted.{IsFront, SaysFront, Accepts, EndsEarly}
-use Rattle.reqld.specs.Turns.{SaysOf, Serves, Why}
-use Rattle.reqld.specs.Promise.{longest_request, Short, TurnedAway, Unread, Served, Course, When, Talked, Session}
+use Rattle.reqld.specs.Greeted.{SaysFront, Accepts, EndsEarly}
+use Rattle.reqld.specs.Answered.{last_piece}
+use Rattle.reqld.specs.Turns.{Serves, Why}
+use Rattle.reqld.specs.Promise.{longest_request, TurnedAway, Unread, Served, Course, When, Talked, Session}
 use Rattle.reqld.specs.declared.ending.End.{End}
 use Rattle.reqld.specs.declared.ending.End.TheVariants as ends
-use Rattle.reqld.specs.Endings.{status_of}
-use Rattle.reqld.proofs.Joined.{says_on, same_moves}
+use Rattle.reqld.specs.Endings.{status_of, faulted}
+use Rattle.reqld.proofs.Joined.{says_on, says_after, faulted_on, same_moves}
 
--- a greeting of which a front of the answer was said
-front_course : (table : List ℕ) (end : End) (heard said : List ℕ) → ((out : List ℕ) → IsFront said out → SaysOf end said out) → ((rest : List ℕ) → Unread end rest) → SaysFront heard said
-    → (rest : List ℕ) × (Short heard said [] rest ⊎ (TurnedAway end heard said [] ⊎ Served table end heard said [] rest))
-front_course table end heard said says unread (inl x) = (heard, inl (record { short = x.0; silent = x.1; unchanged = refl; held = refl }))
-front_course table end heard said says unread (inr (inl x)) = (
+-- a greeting whose answer broke off
+front_course : (table : List ℕ) (heard said : List ℕ) → SaysFront heard said
+    → (rest : List ℕ) × (TurnedAway ends.WriteFault heard said [] ⊎ Served table ends.WriteFault heard said [] rest)
+front_course table heard said (inl x) = (
   drop 12 heard,
-  inr (inr (record {
+  inr (record {
     frames = [];
     answers = [];
     input = sym (take-append-drop 12 heard) ∙ ap (λ t. t ++ drop 12 heard) x.0.1;
     each = tt;
-    output = says accepted x.1;
+    output = x.1;
     answered = refl;
-    unread = unread (drop 12 heard);
-  })),
+    unread = tt;
+  }),
 )
-front_course table end heard said says unread (inr (inr x)) = ([], inr (inl (record { refused = x.0; output = says _ x.1; unchanged = refl })))
+front_course table heard said (inr x) = ([], inl (record { refused = x.0; output = x.1; unchanged = refl }))
 
 pub early : (table : List ℕ) (old new : Tape) (end : End) → EndsEarly old new (2 ^ 60) end → Talked table old new [] end
 early table old new ends.Closed e = record {
@@ -71,12 +70,12 @@ early table old new ends.ReadFault e = record {
   idles = e.idles;
   rest = e.heard;
   moves = e.moves;
-  course = inl (record { short = e.why.1; silent = e.why.3; unchanged = refl; held = refl });
-  when = (e.why.0, e.why.2);
+  course = inl (record { short = e.why.1; silent = e.why.2; unchanged = refl; held = refl });
+  when = e.why.0;
   worn = λ w. absurd (let f : ends.ReadFault ≡ ends.Worn = w in cc);
 }
 early table old new ends.WriteFault e =
-    let c = front_course table ends.WriteFault e.heard e.said (λ out f. f) (λ rest. tt) e.why.2 in
+    let c = front_course table e.heard e.said e.why.1 in
     record {
       heard = e.heard;
       said = e.said;
@@ -84,33 +83,29 @@ early table old new ends.WriteFault e =
       rest = c.0;
       moves = e.moves;
       course = c.1;
-      when = (e.why.0, e.why.1);
+      when = e.why.0;
       worn = λ w. absurd (let f : ends.WriteFault ≡ ends.Worn = w in cc);
     }
-early table old new ends.Worn e =
-    let c = front_course table ends.Worn e.heard e.said (λ out f. f) (λ rest. tt) e.why.1 in
-    record {
-      heard = e.heard;
-      said = e.said;
-      idles = e.idles;
-      rest = c.0;
-      moves = e.moves;
-      course = c.1;
-      when = e.why.0;
-      worn = λ w. omega (arith, e.worn w);
-    }
-early table old new ends.Memory e =
-    let c = front_course table ends.Memory e.heard e.said (λ out f. f) (λ rest. tt) e.why.1 in
-    record {
-      heard = e.heard;
-      said = e.said;
-      idles = e.idles;
-      rest = c.0;
-      moves = e.moves;
-      course = c.1;
-      when = e.why.0;
-      worn = λ w. absurd (let f : ends.Memory ≡ ends.Worn = w in cc);
-    }
+early table old new ends.Worn e = record {
+  heard = e.heard;
+  said = e.said;
+  idles = e.idles;
+  rest = [];
+  moves = e.moves;
+  course = inl (record { silent = e.why.1; unchanged = refl });
+  when = e.why.0;
+  worn = λ w. omega (arith, e.worn w);
+}
+early table old new ends.Memory e = record {
+  heard = e.heard;
+  said = e.said;
+  idles = e.idles;
+  rest = [];
+  moves = e.moves;
+  course = inl (record { silent = e.why.1; unchanged = refl });
+  when = e.why.0;
+  worn = λ w. absurd (let f : ends.Memory ≡ ends.Worn = w in cc);
+}
 early table old new (ends.TooLong n) e = absurd e.why
 
 -- what is not read at the end
@@ -129,8 +124,8 @@ unread_of ends.Memory rest a b w = tt
 when_of : (end : End) (rest : List ℕ) (a b c : Tape) (h s : List ℕ) (i : ℕ) → Moves a b h s i a.over → Why end longest_request rest b c → When end rest a c
 when_of ends.Closed rest a b c h s i m w = w
 when_of (ends.Cut n) rest a b c h s i m w = (w.0, w.3, w.4)
-when_of ends.ReadFault rest a b c h s i m w = (w.0 ∙ m.ended, rose_later _ _ _ m.in_later w.3)
-when_of ends.WriteFault rest a b c h s i m w = (w.0 ∙ m.ended, rose_later _ _ _ m.out_later w.1)
+when_of ends.ReadFault rest a b c h s i m w = w.0 ∙ m.ended
+when_of ends.WriteFault rest a b c h s i m w = w ∙ m.ended
 when_of (ends.TooLong n) rest a b c h s i m w = w.0 ∙ m.ended
 when_of ends.Refused rest a b c h s i m w = absurd w
 when_of ends.Worn rest a b c h s i m w = w ∙ m.ended
@@ -142,9 +137,9 @@ course_of table (ends.Cut n) heard said g rest a b w s = inr s
 course_of table ends.ReadFault heard said g rest a b w s = inr s
 course_of table (ends.TooLong n) heard said g rest a b w s = s
 course_of table ends.Refused heard said g rest a b w s = absurd w
-course_of table ends.WriteFault heard said g rest a b w s = inr (inr s)
-course_of table ends.Worn heard said g rest a b w s = inr (inr s)
-course_of table ends.Memory heard said g rest a b w s = inr (inr s)
+course_of table ends.WriteFault heard said g rest a b w s = inr s
+course_of table ends.Worn heard said g rest a b w s = inr s
+course_of table ends.Memory heard said g rest a b w s = inr s
 
 -- what a feeder holds, by its limit
 pub limited : (h : Holding) → h.limit ≡ longest_request → h ≡ record { limit = longest_request; held = h.held }
@@ -159,13 +154,13 @@ after_greeting table a b c held left g end p s =
       said = accepted ++ e.said;
       idles = p.idles + e.idles;
       rest = e.rest;
-      moves = moves_on a b c p.heard accepted e.heard e.said p.idles e.idles a.over c.over p.moves e.moves;
+      moves = faulted_on end a b c p.heard accepted e.heard e.said p.idles e.idles c.over p.moves e.moves;
       course = course_of table end _ _ g e.rest b c e.why (record {
         frames = e.frames;
         answers = e.answers;
         input = ap (λ t. t ++ e.heard) p.bytes ∙ append_assoc greeting_bytes held e.heard ∙ ap (λ t. greeting_bytes ++ t) e.bytes;
         each = e.each;
-        output = says_on end accepted e.said (spellings e.answers) e.output;
+        output = says_on end accepted e.said (spellings e.answers) (last_piece accepted e.answers) (says_after end e.said (spellings e.answers) accepted [] e.answers e.output);
         answered = e.answered;
         unread = unread_of end e.rest b c e.why;
       });
@@ -180,18 +175,38 @@ unheard table a = early table a a ends.Memory (record {
   said = [];
   idles = 0;
   moves = same_moves a;
-  why = (refl, inl (omega arith, refl));
+  why = (refl, refl);
   worn = λ w. absurd (let f : ends.Memory ≡ ends.Worn = w in cc);
 })
+
+-- the bytes and the counts of faults, by the end
+record Tells (end : End) (old new : Tape) (h s : List ℕ) : Type 0 where
+  pub given : new.given ≡ grown old.given h
+  pub sent : new.sent ≡ grown old.sent s
+  pub faults_in : new.faults_in ≡ counted old.faults_in (if nat_eq (status_of end) 4 then 1 else 0)
+  pub faults_out : new.faults_out ≡ counted old.faults_out (if nat_eq (status_of end) 5 then 1 else 0)
+
+tells : (end : End) (old new : Tape) (h s : List ℕ) (i : ℕ) (o : Bool) → Moves (faulted end old) new h s i o → Tells end old new h s
+tells ends.Closed old new h s i o m = record { given = m.given; sent = m.sent; faults_in = m.faults_in; faults_out = m.faults_out }
+tells (ends.Cut n) old new h s i o m = record { given = m.given; sent = m.sent; faults_in = m.faults_in; faults_out = m.faults_out }
+tells (ends.TooLong n) old new h s i o m = record { given = m.given; sent = m.sent; faults_in = m.faults_in; faults_out = m.faults_out }
+tells ends.ReadFault old new h s i o m = record { given = m.given; sent = m.sent; faults_in = m.faults_in; faults_out = m.faults_out }
+tells ends.WriteFault old new h s i o m = record { given = m.given; sent = m.sent; faults_in = m.faults_in; faults_out = m.faults_out }
+tells ends.Refused old new h s i o m = record { given = m.given; sent = m.sent; faults_in = m.faults_in; faults_out = m.faults_out }
+tells ends.Worn old new h s i o m = record { given = m.given; sent = m.sent; faults_in = m.faults_in; faults_out = m.faults_out }
+tells ends.Memory old new h s i o m = record { given = m.given; sent = m.sent; faults_in = m.faults_in; faults_out = m.faults_out }
 
 -- a session with its status, as the record of its link keeps it
 pub session_of : (table : List ℕ) (old now kept : Tape) (g : List Entry) (end : End) (status : ℕ) → Talked table old now g end → status ≡ status_of end → kept ≡ now → Session table old kept g status
 session_of table old now kept g end status t is same =
-    let s : Session table old now g status = record {
+    let facts : Tells end old now t.heard t.said = tells end old now t.heard t.said t.idles now.over t.moves in
+    let s : Session table old now g (status_of end) = record {
       end = end;
-      ended = is;
+      ended = refl;
       talked = t;
-      given = λ told. t.moves.given ∙ ap (λ b. grown b t.heard) told;
-      sent = λ told. t.moves.sent ∙ ap (λ b. grown b t.said) told;
+      given = λ told. facts.given ∙ ap (λ b. grown b t.heard) told;
+      sent = λ told. facts.sent ∙ ap (λ b. grown b t.said) told;
+      faults_in = facts.faults_in;
+      faults_out = facts.faults_out;
     } in
-    subst (λ k. Session table old k g status) (sym same) s
+    subst (λ k. Session table old k g status) (sym same) (subst (λ n. Session table old now g n) (sym is) s)

@@ -6,7 +6,9 @@ use Rattle.reql_datum.specs.Members.{find}
 use Rattle.reql_term.specs.Form.{Form, literal, keyed, operation, Forms, no_forms, form, NamedForms, no_named, named}
 use Rattle.reql_term.specs.Table.{number_of}
 use Rattle.reql_term.specs.declared.op.Op.{Op}
-use Rattle.reql_read.specs.Query.{Asked, start, query_text, usual}
+use Rattle.reql_term.specs.declared.op.Op.TheVariants as op
+use Rattle.reql_read.specs.Globals.{usual}
+use Rattle.reql_read.specs.Query.{Asked, start, query_text}
 use Rattle.reql_read.specs.declared.fault.ReadFault.{ReadFault}
 use Rattle.reqld.specs.Fields.{key_field}
 use Rattle.reqld.specs.Words.{is_name}
@@ -48,10 +50,10 @@ abbrev pub name_in : Option Form → Option (List ℕ)
 name_in (Some (literal v)) = name_of v
 name_in f = None
 
--- the name of a table: TABLE, term 15, of a name
+-- the name of a table: TABLE of a name
 abbrev pub table_of_call : Option (ℕ × Forms) → Option (List ℕ)
 table_of_call None = None
-table_of_call (Some c) = cond (nat_eq c.0 15) (name_in (one_in c.1)) None
+table_of_call (Some c) = cond (nat_eq c.0 (number_of op.Table)) (name_in (one_in c.1)) None
 
 abbrev pub table_named : Form → Option (List ℕ)
 table_named f = table_of_call (call f)
@@ -93,7 +95,7 @@ abbrev pub members_in : NamedForms → List (List ℕ × Plain)
 members_in no_named = []
 members_in (named k f ms) = (k, value_of f) ∷ members_in ms
 
--- GET is term 16 and INSERT term 56, each of a table and one argument more
+-- GET and INSERT, each of a table and one argument more
 abbrev pub get_of : Option (List ℕ) → Form → Request
 get_of (Some name) (literal key) = cond (is_built_key key) (Get name key) NotBuilt
 get_of name f = NotBuilt
@@ -104,7 +106,9 @@ insert_of name f = NotBuilt
 
 abbrev pub query_with : ℕ → Option (Form × Form) → Request
 query_with n None = NotBuilt
-query_with n (Some args) = cond (nat_eq n 16) (get_of (table_named args.0) args.1) (cond (nat_eq n 56) (insert_of (table_named args.0) args.1) NotBuilt)
+query_with n (Some args) =
+    cond (nat_eq n (number_of op.Get)) (get_of (table_named args.0) args.1)
+    (cond (nat_eq n (number_of op.Insert)) (insert_of (table_named args.0) args.1) NotBuilt)
 
 abbrev pub query_of_call : Option (ℕ × Forms) → Request
 query_of_call None = NotBuilt

@@ -2,10 +2,10 @@ pub mod Fields
 pub mod Words
 pub mod Built
 pub mod Seen
-pub mod Answers
-pub mod Written
+pub mod Summaries
 pub mod Requests
 pub mod Endings
+pub mod Answered
 pub mod Turns
 pub mod Greeted
 pub mod Promise

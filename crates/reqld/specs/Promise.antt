@@ -1,15 +1,16 @@
--- What `run` promises of a whole session: its input and output byte for byte, its history, and when each status comes.
-use Rattle.std.specs.Prelude.{◌≡◌, ℕ, ◌+◌, ◌*◌, ◌^◌, ◌<◌, ◌⊎◌, true, List, [], ◌++◌, length, Option, Some, None}
+-- What `run` promises of a whole session: its input and output byte for byte, its history, and when
+-- each status comes.
+use Rattle.std.specs.Prelude.{◌≡◌, ℕ, ◌+◌, ◌*◌, ◌^◌, ◌<◌, ◌⊎◌, true, nat_eq, if◌then◌else◌, List, [], ◌++◌, length, Option, Some, None}
 use Rattle.std.specs.List.{AllByRecursion}
-use Rattle.reql_outside.specs.Tape.{Tape, Moves, Rose}
+use Rattle.reql_outside.specs.Tape.{Tape, Moves, counted}
 use Rattle.reql_wire.specs.Frames.{Fits, NoFrame, Over, spellings, More, front}
 use Rattle.reql_wire.specs.Greeting.{greeting_bytes, accepted, refusal}
 use Rattle.reql_wire.specs.declared.frame.Frame.{Frame}
 use Rattle.reql_wire.specs.declared.greeter.GreetFault.TheVariants as faults
 use Rattle.reql_law.specs.declared.command.Entry.{Entry}
-use Rattle.reqld.specs.Endings.{status_of}
+use Rattle.reqld.specs.Endings.{status_of, faulted, SaysOf}
 use Rattle.reqld.specs.Greeted.{AreShort, AreRefused}
-use Rattle.reqld.specs.Turns.{Answered, SaysOf}
+use Rattle.reqld.specs.Answered.{Answered, last_piece}
 use Rattle.reqld.specs.Words.{Asks, Serve, asks}
 use Rattle.reqld.specs.declared.ending.End.{End}
 use Rattle.reqld.specs.declared.ending.End.TheVariants as ends
@@ -36,10 +37,16 @@ pub record Short (heard said : List ℕ) (history : List Entry) (rest : List ℕ
 -- another greeting came than the one that is built
 pub record TurnedAway (end : End) (heard said : List ℕ) (history : List Entry) : Type 0 where
   pub refused : AreRefused heard
-  pub output : SaysOf end said (refusal faults.NotBuilt)
+  pub output : SaysOf end said (refusal faults.NotBuilt) (refusal faults.NotBuilt)
   pub unchanged : history ≡ []
 
--- what is left of the input after the last whole frame begins no frame, or begins one that is too long
+-- no greeting was answered
+pub record Unanswered (said : List ℕ) (history : List Entry) : Type 0 where
+  pub silent : said ≡ []
+  pub unchanged : history ≡ []
+
+-- what is left of the input after the last whole frame begins no frame, or begins one that is too
+-- long
 abbrev pub Unread : End → List ℕ → Type 0
 Unread ends.Closed rest = (front longest_request rest ≡ More) × NoFrame longest_request rest
 Unread (ends.Cut held) rest = (front longest_request rest ≡ More) × NoFrame longest_request rest
@@ -53,41 +60,57 @@ pub record Served (table : List ℕ) (end : End) (heard said : List ℕ) (histor
   pub answers : List Frame
   pub input : heard ≡ greeting_bytes ++ (spellings frames ++ rest)
   pub each : AllByRecursion (Fits longest_request) frames
-  pub output : SaysOf end said (accepted ++ spellings answers)
+  pub output : SaysOf end said (accepted ++ spellings answers) (last_piece accepted answers)
   pub answered : Answered table [] frames answers history
   pub unread : Unread end rest
 
+-- What each end was the end of. Every frame that was handled has its whole answer, but for the last
+-- one where a send failed; so want of memory ends a session only where no greeting was answered, or
+-- where bytes that came could not be held.
 abbrev pub Course : List ℕ → End → List ℕ → List ℕ → List Entry → List ℕ → Type 0
 Course table ends.Refused heard said history rest = TurnedAway ends.Refused heard said history
-Course table (ends.TooLong len) heard said history rest = Served table (ends.TooLong len) heard said history rest
-Course table ends.Closed heard said history rest = Short heard said history rest ⊎ Served table ends.Closed heard said history rest
-Course table (ends.Cut held) heard said history rest = Short heard said history rest ⊎ Served table (ends.Cut held) heard said history rest
-Course table ends.ReadFault heard said history rest = Short heard said history rest ⊎ Served table ends.ReadFault heard said history rest
-Course table end heard said history rest = Short heard said history rest ⊎ (TurnedAway end heard said history ⊎ Served table end heard said history rest)
+Course table (ends.TooLong len) heard said history rest =
+    Served table (ends.TooLong len) heard said history rest
+Course table ends.Closed heard said history rest =
+    Short heard said history rest ⊎ Served table ends.Closed heard said history rest
+Course table (ends.Cut held) heard said history rest =
+    Short heard said history rest ⊎ Served table (ends.Cut held) heard said history rest
+Course table ends.ReadFault heard said history rest =
+    Short heard said history rest ⊎ Served table ends.ReadFault heard said history rest
+Course table ends.WriteFault heard said history rest =
+    TurnedAway ends.WriteFault heard said history
+    ⊎ Served table ends.WriteFault heard said history rest
+Course table ends.Worn heard said history rest =
+    Unanswered said history ⊎ Served table ends.Worn heard said history rest
+Course table ends.Memory heard said history rest =
+    Unanswered said history ⊎ Served table ends.Memory heard said history rest
 
 -- when each end comes
 abbrev pub When : End → List ℕ → Tape → Tape → Type 0
 When ends.Closed rest old new = (new.over ≡ true) × (rest ≡ [])
 When (ends.Cut held) rest old new = (new.over ≡ true) × (held ≡ length rest) × (0 < held)
-When ends.ReadFault rest old new = (new.over ≡ old.over) × Rose old.faults_in new.faults_in
-When ends.WriteFault rest old new = (new.over ≡ old.over) × Rose old.faults_out new.faults_out
 When end rest old new = new.over ≡ old.over
 
--- a session on a table, from one moment of its link to another
+-- A session on a table, from one moment of its link to another. No recv and no send failed but for
+-- the one that the session ended with, where it ended so.
 pub record Talked (table : List ℕ) (old new : Tape) (history : List Entry) (end : End) : Type 0 where
   pub heard : List ℕ
   pub said : List ℕ
   pub idles : ℕ
   pub rest : List ℕ
-  pub moves : Moves old new heard said idles new.over
+  pub moves : Moves (faulted end old) new heard said idles new.over
   pub course : Course table end heard said history rest
   pub when : When end rest old new
   pub worn : end ≡ ends.Worn → 2 ^ 60 < 2 * length heard + idles + 2
 
--- the same with its status; where the link tells its bytes, what was given and sent
+-- The same with its status; where the link tells its bytes, what was given and sent. The count of
+-- failed recvs rises by one with status 4 and stands still with any other, and so does the count of
+-- failed sends with status 5.
 pub record Session (table : List ℕ) (old new : Tape) (history : List Entry) (status : ℕ) : Type 0 where
   pub end : End
   pub ended : status ≡ status_of end
   pub talked : Talked table old new history end
   pub given : old.given ≡ Some [] → new.given ≡ Some talked.heard
   pub sent : old.sent ≡ Some [] → new.sent ≡ Some talked.said
+  pub faults_in : new.faults_in ≡ counted old.faults_in (if nat_eq status 4 then 1 else 0)
+  pub faults_out : new.faults_out ≡ counted old.faults_out (if nat_eq status 5 then 1 else 0)

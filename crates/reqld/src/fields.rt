@@ -8,8 +8,6 @@ use reql_datum::{Datum, Fields, Memory, Name};
 pub fn put(fields: &mut Fields, name: Name, value: Datum) -> Result<(), Memory>
     ensures { OnOk result (fields.new ≡ put name (plain value) fields.old) }
 {
-    match fields.put(name, value) {
-        Ok(_) => Ok(()),
-        Err(_) => Err(Memory),
-    }
+    drop(fields.put(name, value)?);
+    Ok(())
 }

@@ -23,12 +23,14 @@ enum Heard {
     Ended(End),
 }
 
-// Receives once, where the greeting is not whole. What comes behind an accepted one is held for the first frame.
+// Receives once, where the greeting is not whole. What comes behind an accepted one is held for the
+// first frame.
 fn hear<L: Link>(link: &mut L, greeter: &mut Greeter, feeder: &mut Feeder, buf: &mut [u8]) -> Heard
     requires room { 0 < length buf.old }
     requires short { length greeter.old < 12 }
     requires none { feeder.old.held ≡ [] }
-    ensures hears { Hears (L.tape link.old) (L.tape link.new) greeter.old greeter.new feeder.new.held result }
+    ensures hears { Hears (L.tape link.old) (L.tape link.new) greeter.old greeter.new
+        feeder.new.held result }
     ensures limit { feeder.new.limit ≡ feeder.old.limit }
 {
     match link.recv(buf) {
@@ -79,7 +81,8 @@ fn refuse<L: Link>(link: &mut L, left: u64) -> Greeted
     }
 }
 
-/// Receives and answers a greeting, in at most so many turns: one for each recv, and one for the answer.
+/// Receives and answers a greeting, in at most so many turns: one for each recv, and one for the
+/// answer.
 pub fn greet<L: Link>(link: &mut L, feeder: &mut Feeder, buf: &mut [u8], turns: u64) -> Greeted
     requires room { 0 < length buf.old }
     requires none { feeder.old.held ≡ [] }

@@ -4,8 +4,6 @@
 //! `run` is the whole server; `main` hands it the process's words and streams.
 #![tactic(auto)]
 
-mod answer;
-mod atom;
 mod ending;
 mod fields;
 mod greeting;
@@ -13,6 +11,8 @@ mod query;
 mod request;
 mod session;
 mod setting;
+mod spare;
+mod summary;
 #[cfg(test)]
 mod tests;
 mod top;

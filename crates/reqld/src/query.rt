@@ -4,7 +4,7 @@ ghost use Rattle.reql_datum.specs.Members.{find};
 ghost use Rattle.reql_datum.specs.View.{plain};
 ghost use Rattle.reql_term.specs.Form.{forms_of, named_of};
 ghost use Rattle.reql_term.specs.View.{form_of};
-ghost use Rattle.reql_read.specs.Query.{usual};
+ghost use Rattle.reql_read.specs.Globals.{usual};
 ghost use Rattle.reql_read.specs.View.{asked};
 ghost use Rattle.reqld.specs.Built.{one_in, two_in, call, table_named, name_in, built, get_of, insert_of, is_built_key, is_built_value, is_built_form, are_built_forms, members_in, has_built_key, value_of, request_of};
 ghost use Rattle.reqld.specs.Fields.{key_field};
@@ -14,7 +14,7 @@ use crate::fields::put;
 use crate::words::is_name;
 use reql_datum::{Datum, Fields, Memory, Name};
 use reql_read::{Globals, Query};
-use reql_term::{Term, TermFields, Terms};
+use reql_term::{Op, Term, TermFields, Terms};
 use std::alloc::Global;
 
 /// A query that is built.
@@ -76,13 +76,16 @@ fn name_in(term: Option<&Term>) -> Option<&Name>
     }
 }
 
-// The name of a table, which is term 15 of a literal name.
+// The name of a table, which is TABLE of a literal name.
 fn table_named(term: &Term) -> Option<&Name>
     ensures { option_map (λ n. n.now) result ≡ table_named (form_of term.now) }
 {
-    let Some((15, args)) = call(term) else {
+    let Some((number, args)) = call(term) else {
         return None;
     };
+    if number != Op::Table.number() {
+        return None;
+    }
     name_in(one_in(args))
 }
 
@@ -192,7 +195,7 @@ fn insert_of<'a>(
     }
 }
 
-// The query that a term is: GET, term 16, or INSERT, term 56.
+// The query that a term is: GET or INSERT.
 fn built(alloc: Global, term: &Term) -> Result<Option<BuiltQuery<'_>>, Memory>
     ensures { IfOk result (Means (built (form_of term.now))) }
 {
@@ -205,10 +208,12 @@ fn built(alloc: Global, term: &Term) -> Result<Option<BuiltQuery<'_>>, Memory>
     let Some(table) = table_named(first) else {
         return Ok(None);
     };
-    match number {
-        16 => Ok(get_of(table, second)),
-        56 => insert_of(alloc, table, second),
-        _ => Ok(None),
+    if number == Op::Get.number() {
+        Ok(get_of(table, second))
+    } else if number == Op::Insert.number() {
+        insert_of(alloc, table, second)
+    } else {
+        Ok(None)
     }
 }
 

@@ -1,40 +1,71 @@
 // What a request is answered, and what it leaves in the table's history.
-ghost use Rattle.std.specs.Prelude.{◌≡◌, ◌++◌, ◌∷◌, [], ◌⊎◌, IfOk, OnOk, OnErr};
+ghost use Rattle.std.specs.Prelude.{◌≡◌, ◌++◌, ◌∷◌, [], ◌⊎◌, IfOk, OnOk, OnErr, codes, option_map, string_bytes};
 ghost use Rattle.reql_law.specs.Machine.{replay, reply};
 ghost use Rattle.reql_datum.specs.View.{plain};
 ghost use Rattle.reql_read.specs.View.{asked};
 ghost use Rattle.reql_read.specs.declared.fault.ReadFault.TheVariants as faults;
+ghost use Rattle.reql_answer.specs.Body.{stamped_by};
+ghost use Rattle.reql_answer.specs.Body.{atom as atom_body};
 ghost use Rattle.reqld.specs.Built.{Request, request_of};
-ghost use Rattle.reqld.specs.Requests.{got, wrote, order_of, entry_of, refused, answer_asked, history_asked, answer_to, history_after};
+ghost use Rattle.reqld.specs.Requests.{got, wrote, missing, order_of, entry_of, point_at, refused, stamped, answer_asked, history_asked, answer_to, history_after};
 ghost use Rattle.reqld.specs.Seen.{Means};
 
-use crate::answer::{missing, refusal, summary_document};
-use crate::atom::atom;
 use crate::query::{BuiltQuery, built_query};
 use crate::setting::Setting;
-use reql_datum::{Datum, Fields, Memory, Seq};
+use crate::summary::summary_document;
+use reql_answer::{ErrorType, Stamp, atom, fault, refusal};
+use reql_datum::{Datum, Fields, Memory, Name, Seq};
 use reql_law::{Cmd, Order, PlainTable, Point, Reply, Said, WriteCmd};
 use reql_read::{Query, ReadFault, read_query};
+use std::alloc::Global;
 
-fn point_at(place: u64, stamp: u64) -> Option<Point>
-    ensures { result ≡ Some (record { slot = 0; place = place; stamp = stamp }) }
+// The points that an answer names.
+fn stamp(points: &[Point]) -> Option<Stamp<'_>>
+    ensures { option_map stamped_by result ≡ stamped points.now }
 {
-    Some(Point {
+    Some(Stamp {
+        catalogue: 0,
+        points,
+    })
+}
+
+// The answer of one document at the point of the one table, which is in slot 0.
+fn atom_at(
+    setting: &Setting<'_>,
+    document: &Datum,
+    place: u64,
+    history_stamp: u64,
+) -> Result<Vec<u8>, Memory>
+    ensures { IfOk result (λ b. b.items ≡ atom_body (plain document.now) (stamped (point_at place history_stamp ∷ []))) }
+{
+    let point = Point {
         slot: 0,
         place,
-        stamp,
-    })
+        stamp: history_stamp,
+    };
+    atom(setting.alloc, document, stamp(&[point]))
+}
+
+fn missing_text(alloc: Global, table: &Name) -> Result<String, Memory>
+    ensures { IfOk result (λ s. string_bytes s ≡ codes "Table `test." ++ table.now ++ codes "` does not exist.") }
+{
+    Ok(format!(in alloc; "Table `test.{}` does not exist.", table.as_str())?)
+}
+
+// The answer to a request on a table of the database `test` that isn't there.
+fn missing(alloc: Global, table: &Name) -> Result<Vec<u8>, Memory>
+    ensures { IfOk result (λ b. b.items ≡ missing table.now) }
+{
+    let why = missing_text(alloc, table)?;
+    fault(alloc, ErrorType::OpFailed, why.as_str(), stamp(&[]))
 }
 
 fn get(setting: &Setting<'_>, table: &PlainTable, key: &Datum) -> Result<Vec<u8>, Memory>
     ensures { IfOk result (λ b. b.items ≡ got (replay table.now) (plain key.now)) }
 {
     let seen = table.look(key);
-    let point = point_at(seen.place, seen.stamp);
-    match seen.doc {
-        Some(doc) => atom(setting.alloc, doc, point),
-        None => atom(setting.alloc, &Datum::Null, point),
-    }
+    let doc = seen.doc.unwrap_or(&Datum::Null);
+    atom_at(setting, doc, seen.place, seen.stamp)
 }
 
 fn order_of(setting: &Setting<'_>, doc: Fields) -> Result<Order, Memory>
@@ -52,7 +83,7 @@ fn wrote(setting: &Setting<'_>, reply: &Reply) -> Result<Vec<u8>, Memory>
 {
     let Said::Done(summary) = &reply.said;
     let shown = summary_document(setting.alloc, summary)?;
-    atom(setting.alloc, &shown, point_at(reply.place, reply.stamp))
+    atom_at(setting, &shown, reply.place, reply.stamp)
 }
 
 fn insert(setting: &Setting<'_>, table: &mut PlainTable, doc: Fields) -> Result<Vec<u8>, Memory>
@@ -61,10 +92,8 @@ fn insert(setting: &Setting<'_>, table: &mut PlainTable, doc: Fields) -> Result<
     ensures refused { OnErr result ((table.new ≡ table.old) ⊎ (table.new ≡ table.old ++ entry_of doc ∷ [])) }
 {
     let order = order_of(setting, doc)?;
-    match table.write(0, order) {
-        Ok(reply) => wrote(setting, &reply),
-        Err(_) => Err(Memory),
-    }
+    let reply = table.write(0, order)?;
+    wrote(setting, &reply)
 }
 
 fn answer_built(

@@ -2,12 +2,14 @@
 ghost use Rattle.std.specs.Prelude.{◌≡◌, ◌<◌, [], length, IfOk, OnOk, OnErr, ◌⊎◌};
 ghost use Rattle.reql_wire.specs.Frames.{spelling, front, More, NoFrame};
 ghost use Rattle.reqld.specs.Requests.{history_after};
-ghost use Rattle.reqld.specs.Turns.{answer_frame, Handles, Received, Said, SaysInternal, Serves, Turned};
+ghost use Rattle.reqld.specs.Answered.{answer_frame, internal_to};
+ghost use Rattle.reqld.specs.Turns.{Handles, Received};
+ghost use Rattle.reqld.specs.Turns.{Said, Serves, Turned, world};
 
-use crate::answer::internal;
 use crate::ending::End;
 use crate::request::answer;
 use crate::setting::Setting;
+use crate::spare::Spare;
 use reql_datum::Memory;
 use reql_law::PlainTable;
 use reql_outside::{Link, Recv, send_all};
@@ -18,8 +20,7 @@ use reql_wire::{Feeder, Frame, WireFault, put_frame};
 pub struct State {
     pub table: PlainTable,
     pub feeder: Feeder,
-    /// Room for the answer for want of memory.
-    pub spare: Vec<u8>,
+    pub spare: Spare,
 }
 
 // Says a piece: none where all of it was said.
@@ -39,9 +40,12 @@ fn answer_frame(
     table: &mut PlainTable,
     frame: &Frame,
 ) -> Result<Vec<u8>, Memory>
-    ensures answer { IfOk result (λ b. b.items ≡ spelling (answer_frame setting.now.name.now table.old frame.now)) }
-    ensures history { OnOk result (table.new ≡ history_after setting.now.name.now table.old frame.now.body) }
-    ensures refused { OnErr result ((table.new ≡ table.old) ⊎ (table.new ≡ history_after setting.now.name.now table.old frame.now.body)) }
+    ensures answer { IfOk result (λ b.
+        b.items ≡ spelling (answer_frame setting.now.name.now table.old frame.now)) }
+    ensures history { OnOk result
+        (table.new ≡ history_after setting.now.name.now table.old frame.now.body) }
+    ensures refused { OnErr result ((table.new ≡ table.old)
+        ⊎ (table.new ≡ history_after setting.now.name.now table.old frame.now.body)) }
 {
     let body = answer(setting, table, frame.body.as_slice())?;
     let mut out = Vec::new(setting.alloc);
@@ -52,24 +56,22 @@ fn answer_frame(
 }
 
 // Says the answer for want of memory, which stands in room that was taken before.
-fn say_internal<L: Link>(link: &mut L, spare: &mut Vec<u8>, token: u64) -> Option<End>
-    ensures { SaysInternal (L.tape link.old) (L.tape link.new) token result }
+fn say_internal<L: Link>(link: &mut L, spare: &mut Spare, token: u64) -> Option<End>
+    ensures { Said (L.tape link.old) (L.tape link.new) (spelling (internal_to token)) result }
 {
-    spare.clear();
-    match put_frame(spare, token, internal()) {
-        Ok(()) => say(link, spare),
-        Err(_) => Some(End::Memory),
-    }
+    spare.put_internal(token);
+    say(link, spare.as_slice())
 }
 
 fn handle<L: Link>(
     setting: &Setting<'_>,
     link: &mut L,
     table: &mut PlainTable,
-    spare: &mut Vec<u8>,
+    spare: &mut Spare,
     frame: &Frame,
 ) -> Option<End>
-    ensures { Handles setting.now.name.now (L.tape link.old) (L.tape link.new) table.old table.new frame.now result }
+    ensures { Handles setting.now.name.now (L.tape link.old) (L.tape link.new)
+        table.old table.new frame.now result }
 {
     match answer_frame(setting, table, frame) {
         Ok(bytes) => say(link, &bytes),
@@ -110,8 +112,9 @@ fn turn<L: Link>(
     buf: &mut [u8],
 ) -> Option<End>
     requires { 0 < length buf.old }
-    ensures { Turned setting.now.name.now (record { tape = L.tape link.old; holding = state.old.feeder; history = state.old.table })
-        (record { tape = L.tape link.new; holding = state.new.feeder; history = state.new.table }) result }
+    ensures { Turned setting.now.name.now
+        (world (L.tape link.old) state.old.feeder state.old.table)
+        (world (L.tape link.new) state.new.feeder state.new.table) result }
 {
     match state.feeder.take() {
         Ok(Some(frame)) => handle(setting, link, &mut state.table, &mut state.spare, &frame),
@@ -130,7 +133,9 @@ pub fn serve<L: Link>(
     buf: &mut [u8],
 ) -> End
     requires { 0 < length buf.old }
-    ensures { Serves setting.now.name.now turns (record { tape = L.tape link.old; holding = state.old.feeder; history = state.old.table }) (L.tape link.new) state.new.table result }
+    ensures { Serves setting.now.name.now turns
+        (world (L.tape link.old) state.old.feeder state.old.table)
+        (L.tape link.new) state.new.table result }
 {
     for _ in 0..turns {
         if let Some(end) = turn(setting, link, state, buf) {

@@ -1,11 +1,13 @@
 // The top call: one session over one link.
-ghost use Rattle.std.specs.Prelude.{◌≡◌, ◌↔◌, ◌<◌, ℕ, List, [], length, map, string_bytes, IfSome, MatchOption, Some, None};
+ghost use Rattle.std.specs.Prelude.{◌≡◌, ◌↔◌, ◌<◌, ℕ, List, [], length, map, string_bytes};
+ghost use Rattle.std.specs.Prelude.{IfSome, MatchOption, Some, None};
 ghost use Rattle.reqld.specs.Promise.{Session, Talked, longest_request, table_of_words};
 
 use crate::ending::End;
 use crate::greeting::{Greeted, greet};
 use crate::session::{State, serve};
 use crate::setting::Setting;
+use crate::spare::Spare;
 use crate::words::{Command, command_of};
 use reql_datum::Name;
 use reql_law::{Entry, PlainTable};
@@ -22,15 +24,13 @@ const TURNS: u64 = 1 << 60;
 /// The most bytes of one recv.
 const RECEIVED_BYTES: usize = 65_536;
 
-/// The bytes of a frame with the answer for want of memory.
-const INTERNAL_FRAME_BYTES: usize = 64;
-
 /// What is left of the one session that `run` serves.
 #[derive(Drop)]
 pub struct First<R> {
-    /// 0: the input ended between two frames. 2: the words are others. 4, 5: reading, writing failed.
-    /// 6: the input ended within a greeting or a frame. 7: the greeting was refused. 8: memory was wanted.
-    /// 9: a frame was too long, or all turns were used up.
+    /// 0: the input ended between two frames. 2: the words are others. 4, 5: one recv, one send
+    /// failed, the link's last call. 6: the input ended within a greeting or a frame. 7: the
+    /// greeting was refused. 8: memory was wanted before the greeting was answered, or for bytes
+    /// that came. 9: a frame was too long, or all turns were used up.
     pub status: u8,
     /// The link's record; none with the status 2.
     pub tape: Option<R>,
@@ -60,7 +60,8 @@ fn converse<L: Link>(setting: &Setting<'_>, link: &mut L, state: &mut State, buf
     requires room { 0 < length buf.old }
     requires bytes { state.old.feeder ≡ record { limit = longest_request; held = [] } }
     requires table { state.old.table ≡ [] }
-    ensures { Talked setting.now.name.now (L.tape link.old) (L.tape link.new) state.new.table result }
+    ensures { Talked setting.now.name.now (L.tape link.old) (L.tape link.new)
+        state.new.table result }
 {
     match greet(link, &mut state.feeder, buf, TURNS) {
         Greeted::Ended(end) => end,
@@ -70,11 +71,13 @@ fn converse<L: Link>(setting: &Setting<'_>, link: &mut L, state: &mut State, buf
 
 // What a session takes before its first byte, or none where memory is wanted for it.
 fn room(alloc: Global) -> Option<(State, Vec<u8>)>
-    ensures state { IfSome result (λ r. (r.0.feeder ≡ record { limit = longest_request; held = [] }) × (r.0.table ≡ [])) }
+    ensures bytes { IfSome result (λ r.
+        r.0.feeder ≡ record { limit = longest_request; held = [] }) }
+    ensures table { IfSome result (λ r. r.0.table ≡ []) }
     ensures buf { IfSome result (λ r. 0 < length r.1.items) }
 {
     let buf = vec![in alloc; 0u8; RECEIVED_BYTES].ok()?;
-    let spare = Vec::with_capacity(alloc, INTERNAL_FRAME_BYTES).ok()?;
+    let spare = Spare::new(alloc).ok()?;
     let state = State {
         table: PlainTable::new(alloc),
         feeder: Feeder::new(alloc, LONGEST_REQUEST),
@@ -108,7 +111,8 @@ fn talk_over<L: Link>(alloc: Global, name: &str, link: &mut L) -> Finished
 
 fn serve_link<L: Link>(alloc: Global, name: &str, link: L) -> First<L::Record>
     ensures status { (result.status ≡ 2) → ⊥ }
-    ensures session { MatchOption result.tape ⊥ (λ r. Session name.now (L.tape link) (L.kept r) result.history.items result.status) }
+    ensures session { MatchOption result.tape ⊥ (λ r.
+        Session name.now (L.tape link) (L.kept r) result.history.items result.status) }
 {
     let mut link = link;
     let Finished { end, history } = talk_over(alloc, name, &mut link);
@@ -123,11 +127,14 @@ fn serve_link<L: Link>(alloc: Global, name: &str, link: L) -> First<L::Record>
 ///
 /// The words are `stdio --table test.NAME`. With any other words the status is 2, and no record is
 /// there. Where the link tells its bytes, what was given and sent is known: the answer to the
-/// greeting and then, for each whole frame in order, its answer by the entries before it.
+/// greeting and then, for each whole frame in order, its answer by the entries before it, or the
+/// answer for want of memory. The first recv or send that fails ends the session.
 pub fn run<L: Link + Drop>(alloc: Global, words: &[String], stdio: L) -> First<L::Record>
     ensures words { (table_of_words (map string_bytes words.now) ≡ None) ↔ (result.status ≡ 2) }
     ensures unused { result.status ≡ 2 → (result.tape ≡ None) × (result.history.items ≡ []) }
-    ensures session { MatchOption result.tape (result.status ≡ 2) (λ r. (table : List ℕ) × (table_of_words (map string_bytes words.now) ≡ Some table) × Session table (L.tape stdio) (L.kept r) result.history.items result.status) }
+    ensures session { MatchOption result.tape (result.status ≡ 2) (λ r.
+        (table : List ℕ) × (table_of_words (map string_bytes words.now) ≡ Some table)
+        × Session table (L.tape stdio) (L.kept r) result.history.items result.status) }
 {
     match command_of(words) {
         Command::Serve { table } => serve_link(alloc, table, stdio),

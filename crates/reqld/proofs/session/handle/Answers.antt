@@ -1,6 +1,6 @@
 use Rattle.std.proofs.Common.{inl, inr, refl}
-use Rattle.reqld.specs.Turns.{answer_frame}
-use Rattle.reqld.proofs.Turning.{handled, handled_internal}
+use Rattle.reqld.specs.Answered.{answer_frame, internal_frame}
+use Rattle.reqld.proofs.Turning.{handled}
 use Rattle.reqld.proofs.session.handle.Goals as goal
 
 pub returns-in-Ok : goal.returns-in-Ok
@@ -10,5 +10,5 @@ returns-in-Ok g c =
 
 pub returns-in-Err : goal.returns-in-Err
 returns-in-Err g c =
-    handled_internal _ _ _ _ _ c.args.frame.now c.say_internal.result
+    handled _ _ _ _ _ c.args.frame.now (internal_frame c.args.frame.now) c.say_internal.result
     (elim c.in-Err.ensures.refused [ inl e ↦ inr (inr (refl, e)) | inr e ↦ inr (inl (refl, e)) ]) c.say_internal.ensures

@@ -1,4 +1,4 @@
-use Rattle.std.proofs.Common.{[], refl}
+use Rattle.std.proofs.Common.{refl}
 use Rattle.reqld.specs.declared.ending.End.TheVariants as ends
 use Rattle.reqld.proofs.Joined.{ended_at_once}
 use Rattle.reqld.proofs.Turning.{turn_frame, turn_received}
@@ -18,7 +18,7 @@ returns-in-Ok-None g c =
 pub returns-in-Err-TooLong : goal.returns-in-Err-TooLong
 returns-in-Err-TooLong g c =
     let t = rw c.in-Err-TooLong.field-0-is at c.in-Err-TooLong.ensures in
-    rw c.in-Err-TooLong.len-is (ended_at_once c.args.setting.now.name.now _ (ends.TooLong c.in-Err-TooLong.len) refl (refl, t.1))
+    rw c.in-Err-TooLong.len-is (ended_at_once c.args.setting.now.name.now _ (ends.TooLong c.in-Err-TooLong.len) refl refl (refl, t.1))
 
 pub returns-in-Err-Memory : goal.returns-in-Err-Memory
-returns-in-Err-Memory g c = ended_at_once c.args.setting.now.name.now _ ends.Memory ([], refl) refl
+returns-in-Err-Memory g c = ended_at_once c.args.setting.now.name.now _ ends.Memory refl refl refl

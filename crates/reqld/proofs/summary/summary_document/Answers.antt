@@ -1,7 +1,7 @@
 use Rattle.std.proofs.Common.{ap}
 use Rattle.reql_datum.specs.Plain.{object, pairs_of}
 use Rattle.reqld.proofs.Summaries.{summary_puts}
-use Rattle.reqld.proofs.answer.summary_document.Goals as goal
+use Rattle.reqld.proofs.summary.summary_document.Goals as goal
 
 pub returns : goal.returns
 returns c =
