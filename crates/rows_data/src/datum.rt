@@ -1,7 +1,6 @@
 use crate::order::are_equal;
 use reql_datum::{
-    Blob, Datum, Fields, Items, Memory, Moment, Name, NumFault, Refused, Seq, Whole, order_laws,
-    zone_laws,
+    Blob, Datum, Fields, Items, Memory, Moment, Name, NumFault, Seq, Whole, order_laws, zone_laws,
 };
 use reql_json::{from_value, text, to_value};
 use serde_json::Value;
@@ -19,10 +18,7 @@ fn sample(alloc: Global) -> Result<Fields, Memory> {
     let mut fields = Fields::new(alloc);
     for (name, n) in [("b", 1), ("a", 2), ("d", 3), ("c", 4), ("b", 5)] {
         let key = Name::of(alloc, name)?;
-        if let Err(Refused { back }) = fields.put(key, number(n)) {
-            drop(back);
-            return Err(Memory);
-        }
+        drop(fields.put(key, number(n))?);
     }
     Ok(fields)
 }
@@ -119,18 +115,12 @@ fn read(alloc: Global, source: &str) -> Result<Datum, Fail> {
 fn sorted(alloc: Global, list: &Items) -> Result<Items, Memory> {
     let mut held = Vec::new(alloc);
     for item in list.as_slice() {
-        if let Err(_) = held.push(item.copy()?) {
-            return Err(Memory);
-        }
+        held.push(item.copy()?)?;
     }
-    if let Err(_) = held.sort() {
-        return Err(Memory);
-    }
+    held.sort()?;
     let mut items = Items::with_room(alloc, held.len())?;
     for item in held {
-        if let Err(_) = items.push(item) {
-            return Err(Memory);
-        }
+        items.push(item)?;
     }
     Ok(items)
 }

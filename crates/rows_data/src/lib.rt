@@ -2,10 +2,16 @@
 #![tactic(auto)]
 
 #[cfg(test)]
+mod bags;
+#[cfg(test)]
 mod datum;
+#[cfg(test)]
+mod kinds;
 mod order;
 #[cfg(test)]
 mod size;
+#[cfg(test)]
+mod trees;
 #[cfg(test)]
 mod values;
 

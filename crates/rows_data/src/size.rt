@@ -8,9 +8,7 @@ fn nested(alloc: Global, deep: u32) -> Result<Datum, Memory> {
     let mut d = Datum::Null;
     for _ in 0..deep {
         let mut items = Items::new(alloc);
-        if let Err(_) = items.push(d) {
-            return Err(Memory);
-        }
+        items.push(d)?;
         d = Datum::List(items);
     }
     Ok(d)
@@ -19,9 +17,7 @@ fn nested(alloc: Global, deep: u32) -> Result<Datum, Memory> {
 fn listed(alloc: Global, d: &Datum, times: u32) -> Result<Datum, Memory> {
     let mut items = Items::new(alloc);
     for _ in 0..times {
-        if let Err(_) = items.push(d.copy()?) {
-            return Err(Memory);
-        }
+        items.push(d.copy()?)?;
     }
     Ok(Datum::List(items))
 }
@@ -29,13 +25,9 @@ fn listed(alloc: Global, d: &Datum, times: u32) -> Result<Datum, Memory> {
 fn wide(alloc: Global, names: u32) -> Result<Fields, Memory> {
     let mut fields = Fields::new(alloc);
     for i in 0..names {
-        let Ok(text) = format!(in alloc; "{i:06}") else {
-            return Err(Memory);
-        };
+        let text = format!(in alloc; "{i:06}")?;
         let name = Name::of(alloc, text.as_str())?;
-        if let Err(_) = fields.put(name, Datum::Null) {
-            return Err(Memory);
-        }
+        drop(fields.put(name, Datum::Null)?);
     }
     Ok(fields)
 }

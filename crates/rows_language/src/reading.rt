@@ -1,11 +1,12 @@
 // Bodies as drivers write them, and their refusals.
 use crate::quiet::wants_no_answer;
+use reql_datum::Datum;
 use reql_read::{Globals, Query, Unread, read_query};
 use reql_term::{Op, Term};
 use std::alloc::{AllocError, Global};
 use std::test::Fail;
 
-const READ: [&str; 110] = [
+const READ: [&str; 113] = [
     "[1,[2,[1,\"a\",null,true]]]",
     "[1,[3,[],{\"a\":1}]]",
     "[1,{\"a\":{\"b\":[2,[1]]}}]",
@@ -109,6 +110,9 @@ const READ: [&str; 110] = [
     "[1,[175,[[15,[\"docs\"]]]]]",
     "[1,[138,[[15,[\"docs\"]]]]]",
     "[1,[152,[[15,[\"docs\"]]],{\"squash\":false,\"include_initial\":true}]]",
+    "[1,[101,[1]]]",
+    "[1,[102,[[103]]]]",
+    "[1,[103,[]]]",
     "[1,9007199254740992]",
     "[1,1,{\"db\":[14,[\"d\"]],\"noreply\":true,\"array_limit\":7,\"max_batch_rows\":5000,\"profile\":false,\"time_format\":[9]}]",
     "[1,1,{\"db\":[14,[\"d\"],{}]}]",
@@ -118,7 +122,7 @@ const READ: [&str; 110] = [
     "[5]",
 ];
 
-const REFUSED: [(&str, &str); 44] = [
+const REFUSED: [(&str, &str); 52] = [
     ("{", "Query is not JSON."),
     ("[1,1e400]", "Query is not JSON."),
     ("7", "Query has a wrong shape."),
@@ -139,7 +143,6 @@ const REFUSED: [(&str, &str); 44] = [
     ("[1,[256,[1.5]]]", "Unknown term 256."),
     ("[1,[255]]", "Term 255 is not supported."),
     ("[1,[1,[1.5]]]", "Term 1 is not supported."),
-    ("[1,[101,[1]]]", "Term 101 is not supported."),
     (
         "[1,[23,[],{\"a\":1}]]",
         "Term 23 does not take 0 arguments.",
@@ -181,6 +184,42 @@ const REFUSED: [(&str, &str); 44] = [
         "[1,[3,[],{\"$reql_type$\":1,\"a\":1.5}]]",
         "Reserved name `$reql_type$`.",
     ),
+    (
+        "[1,{\"$reql_type$\":\"BINARY\",\"data\":\"A\"}]",
+        "Reserved name `$reql_type$`.",
+    ),
+    (
+        "[1,[3,[],{\"$reql_type$\":\"BINARY\",\"data\":\"AQ\"}]]",
+        "Reserved name `$reql_type$`.",
+    ),
+    (
+        "[1,[3,[1],{\"$reql_type$\":\"BINARY\",\"data\":\"\"}]]",
+        "Term 3 does not take 1 arguments.",
+    ),
+    (
+        "[1,{\"$reql_type$\":\"BINARY\",\"data\":[]}]",
+        "Query has a wrong shape.",
+    ),
+    (
+        "[1,{\"$reql_type$\":\"LITERAL\"}]",
+        "Reserved name `$reql_type$`.",
+    ),
+    (
+        "[1,{\"$reql_type$\":\"TIME\",\"epoch_time\":1.5,\"timezone\":\"x\"}]",
+        "Number is not whole.",
+    ),
+    (
+        "[1,{\"$reql_type$\":\"TIME\",\"epoch_time\":9007199254740993,\"timezone\":\"x\"}]",
+        "Number outside the range of whole numbers.",
+    ),
+    (
+        "[1,{\"$reql_type$\":\"TIME\",\"epoch_time\":[1],\"timezone\":\"Z\"}]",
+        "Reserved name `$reql_type$`.",
+    ),
+    (
+        "[1,{\"$reql_type$\":\"TIME\",\"epoch_time\":1,\"timezone\":\"+24:00\"}]",
+        "Reserved name `$reql_type$`.",
+    ),
     ("[1,1.5,{\"x\":1}]", "Number is not whole."),
     (
         "[1,1,{\"x\":1,\"db\":1}]",
@@ -204,6 +243,16 @@ const REFUSED: [(&str, &str); 44] = [
     ),
 ];
 
+// Bodies whose term is a binary or a time.
+const LITERALS: [&str; 6] = [
+    "[1,{\"$reql_type$\":\"BINARY\",\"data\":\"AQ==\"}]",
+    "[1,[3,[],{\"$reql_type$\":\"BINARY\",\"data\":\"\"}]]",
+    "[1,{\"data\":\"AQ\\n==\",\"$reql_type$\":\"BINARY\"}]",
+    "[1,{\"$reql_type$\":\"TIME\",\"epoch_time\":0,\"timezone\":\"Z\"}]",
+    "[1,[3,[],{\"$reql_type$\":\"TIME\",\"epoch_time\":-1,\"timezone\":\"-01:30\"}]]",
+    "[1,{\"$reql_type$\":\"TIME\",\"epoch_time\":1700000000,\"timezone\":\"+23:59\"},{\"noreply\":false}]",
+];
+
 fn is_read(alloc: Global, body: &str) -> bool {
     read_query(alloc, body.as_bytes()).is_ok()
 }
@@ -218,10 +267,26 @@ fn is_refused(alloc: Global, body: &str, text: &str) -> bool {
     }
 }
 
+fn is_literal(alloc: Global, body: &str) -> bool {
+    match read_query(alloc, body.as_bytes()) {
+        Ok(
+            Query::Start {
+                term: Term::Lit(datum),
+                globals: _,
+                noreply: _,
+            },
+        ) => matches!(&datum, Datum::Binary(_) | Datum::Time(_)),
+        _ => false,
+    }
+}
+
 #[test]
 fn terms_of_drivers_are_read(rt: HostRuntime) -> Result<(), Fail> {
     for body in &READ {
         assert!(rt; is_read(rt.alloc(), body));
+    }
+    for body in &LITERALS {
+        assert!(rt; is_literal(rt.alloc(), body));
     }
     Ok(())
 }

@@ -37,10 +37,7 @@ impl Engine for Callers {
     }
 
     fn ask(&self, _question: &()) -> Result<Seq<u64>, Memory> {
-        match self.calls.clone() {
-            Ok(calls) => Ok(Seq::from_vec(calls)),
-            Err(_) => Err(Memory),
-        }
+        Ok(Seq::from_vec(self.calls.clone()?))
     }
 
     fn records(_answered: &u64) -> bool {
