@@ -267,16 +267,21 @@ fn is_refused(alloc: Global, body: &str, text: &str) -> bool {
     }
 }
 
+fn asks_a_literal(query: &Query) -> bool {
+    match query {
+        Query::Start {
+            term: Term::Lit(datum),
+            globals: _,
+            noreply: _,
+        } => matches!(datum, Datum::Binary(_) | Datum::Time(_)),
+        _ => false,
+    }
+}
+
 fn is_literal(alloc: Global, body: &str) -> bool {
     match read_query(alloc, body.as_bytes()) {
-        Ok(
-            Query::Start {
-                term: Term::Lit(datum),
-                globals: _,
-                noreply: _,
-            },
-        ) => matches!(&datum, Datum::Binary(_) | Datum::Time(_)),
-        _ => false,
+        Ok(query) => asks_a_literal(&query),
+        Err(_) => false,
     }
 }
 
