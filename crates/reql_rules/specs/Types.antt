@@ -42,25 +42,28 @@ abbrev pub object_in : Plain → Option (List (Bytes × Plain))
 object_in (object ms) = if is_literal ms then None else Some (members ms)
 object_in v = None
 
--- the fault of a value where one of another type is wanted
+-- the fault where one type is wanted, by whether nothing is there and by the type's name of what is
+abbrev pub mistyped : Bytes → Bool → Bytes → Reason
+mistyped want true name = null_fault want
+mistyped want false name = type_fault want name
+
 abbrev pub mismatch : Bytes → Plain → Reason
-mismatch want null = null_fault want
-mismatch want v = type_fault want (type_name v)
+mismatch want v = mistyped want (is_null v) (type_name v)
 
 module _ {A : Type 0} where
-  -- what is wanted, or the fault that the value is something else
-  abbrev pub wanted : Bytes → Plain → Option A → Answer A
-  wanted want v (Some x) = Ok x
-  wanted want v None = Err (mismatch want v)
+  -- what is there, or the fault that it isn't
+  abbrev pub wanted : Reason → Option A → Answer A
+  wanted e (Some x) = Ok x
+  wanted e None = Err e
 
 abbrev pub as_number : Plain → Answer ℤ
-as_number v = wanted (codes "NUMBER") v (number_in v)
+as_number v = wanted (mismatch (codes "NUMBER") v) (number_in v)
 
 abbrev pub as_text : Plain → Answer Bytes
-as_text v = wanted (codes "STRING") v (text_in v)
+as_text v = wanted (mismatch (codes "STRING") v) (text_in v)
 
 abbrev pub as_items : Plain → Answer (List Plain)
-as_items v = wanted (codes "ARRAY") v (items_in v)
+as_items v = wanted (mismatch (codes "ARRAY") v) (items_in v)
 
 abbrev pub as_object : Plain → Answer (List (Bytes × Plain))
-as_object v = wanted (codes "OBJECT") v (object_in v)
+as_object v = wanted (mismatch (codes "OBJECT") v) (object_in v)
