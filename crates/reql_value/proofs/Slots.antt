@@ -10,8 +10,8 @@ use Rattle.reql_term.specs.declared.op.Op.{Op}
 use Rattle.reql_term.specs.declared.op.Op.TheVariants as op
 use Rattle.reql_rules.specs.Lists.{Bytes, array_of, each}
 use Rattle.reql_rules.specs.Mapping.{concat_all}
-use Rattle.reql_rules.specs.Types.{same_text, as_object}
-use Rattle.reql_rules.specs.Patterns.{pluck, without, has_fields}
+use Rattle.reql_rules.specs.Types.{same_text}
+use Rattle.reql_rules.specs.Patterns.{pluck, without}
 use Rattle.reql_rules.specs.declared.words.Arith.TheVariants as arith
 use Rattle.reql_rules.specs.declared.words.Relate.TheVariants as relation
 use Rattle.reql_rules.specs.declared.words.Edit.TheVariants as edit
@@ -33,7 +33,7 @@ use Rattle.reql_value.specs.Called.{answer, answer_items}
 use Rattle.reql_value.specs.Scalars.{make_array, raise, funcall, type_of, literal, constant, comparison, negation, arithmetic, epoch_time, to_epoch_time}
 use Rattle.reql_value.specs.Coercions.{coerced, coerce_to}
 use Rattle.reql_value.specs.Arrays.{end_edit, place_edit, delete_at, splice_at, set_insert, set_operation}
-use Rattle.reql_value.specs.Fields.{Subject, object_alone, elements, subject_of, field_subject, field_of, get_field_rule, nth_rule, bracket_by, bracket, patterns, has_fields_of, has_fields_rule, with_fields, on_subject, by_patterns, merge_rule, keys_rule, values_rule, object_rule, having}
+use Rattle.reql_value.specs.Fields.{Subject, object_alone, elements, subject_of, field_subject, field_of, get_field_rule, nth_rule, bracket_by, bracket, patterns, has_fields_of, has_fields_rule, with_fields, on_subject, by_patterns, merge_rule, keys_rule, values_rule, object_rule, has_all, having}
 use Rattle.reql_value.specs.Sequences.{reduce_rule, map_rule, concat_map, filter_rule, count_datum, count_rule, union_rule, slice_rule, counted_part, is_empty, offsets_of, contains, range_rule, are_arrays}
 use Rattle.reql_value.specs.Orders.{bounded_source, index_source, table_source, index_given, order_by_keys, order_by_index, order_in, order_by, distinct_in, distinct_rule, entry_keyed, is_down, key_at}
 use Rattle.reql_value.specs.Groups.{group_in, group_rule, ungroup_rule, total_rule}
@@ -254,7 +254,7 @@ module _ (P : ℕ → Type 0) (w v : World) (agree : Agree P w v) where
   has_fields_same calls [] opts k h = refl
 
   has_fields_of_in : (m : Meant) → In P m → (ps : List Plain) (s : Subject) → Each (In P) (has_fields_of m ps s)
-  has_fields_of_in m h ps (object_alone d) = then_each (In P) (as_object d) (λ x. Ok (one (boolean (has_fields ps x)))) (λ x. tt)
+  has_fields_of_in m h ps (object_alone d) = then_each (In P) (has_all ps d) (λ b. Ok (one (boolean b))) (λ b. tt)
   has_fields_of_in m h ps (elements ds) = then_each (In P) (having ps ds) (λ x. Ok (like m x)) (λ es. like_in m h es)
 
   has_fields_in : KeepsRule has_fields_rule

@@ -5,16 +5,15 @@ use Rattle.reql_datum.specs.Answer.{Answer, ◌>>=◌, Reason, query_logic, non_
 use Rattle.reql_datum.specs.Members.{find}
 use Rattle.reql_datum.specs.Plain.{Plain, low, array, boolean, null, number, object, binary, time, text, high, listed}
 use Rattle.reql_rules.specs.Fields.{on_objects, on_each}
-use Rattle.reql_rules.specs.Lists.{Bytes, each, each_joined}
+use Rattle.reql_rules.specs.Lists.{each, each_joined}
 use Rattle.reql_rules.specs.Mapping.{tested, passing, filter_all}
-use Rattle.reql_rules.specs.Patterns.{has_fields, pluck, without}
-use Rattle.reql_rules.specs.Types.{as_object}
+use Rattle.reql_rules.specs.Patterns.{pluck, without}
 use Rattle.reql_value.specs.Called.{answer_one, answer_test}
-use Rattle.reql_value.specs.Fields.{elements, subject_of, field_subject, having, patterns, has_fields_of, has_fields_rule, with_fields, on_subject, by_patterns, merge_rule, merged_on}
+use Rattle.reql_value.specs.Fields.{elements, subject_of, field_subject, having, having_one, patterns, has_fields_of, has_fields_rule, with_fields, on_subject, by_patterns, merge_rule, merged_on}
 use Rattle.reql_value.specs.Meant.{Meant, one, stream, selection, row, table, grouped, database, callable, Given, given, Calls, is_nothing}
 use Rattle.reql_value.specs.Sequenced.{like, alike, like_first, alike_first}
 use Rattle.reql_value.specs.Sequences.{map_rule, filter_rule, default_given, in_its_place}
-use Rattle.reql_value.specs.Stages.{staged_by, by_answer, mapping, going, having_one, map_stage, filter_stage, pattern_stage, merge_stage, having_stage, with_fields_stage, IsStage, StagesGoByElement}
+use Rattle.reql_value.specs.Stages.{staged_by, by_answer, mapping, going, map_stage, filter_stage, pattern_stage, merge_stage, having_stage, with_fields_stage, IsStage, StagesGoByElement}
 use Rattle.reql_value.specs.Wanted.{to_sequence}
 use Rattle.reql_value.specs.World.{World, view_at, documents_of}
 
@@ -110,24 +109,6 @@ filter_as r test [] = place_ok r []
 filter_as r test (v ∷ vs) = filter_step r (test v) v (passing test vs) (each_joined (λ v. in_its_place r (test v) >>= λ b. Ok (if b then v ∷ [] else [])) vs) (filter_as r test vs)
 
 -- HAS_FIELDS and WITH_FIELDS
-having_step : (a : Answer (List (Bytes × Plain))) (ps : List Plain) (d : Plain) (p q : Answer (List Plain)) → p ≡ q
-    → (a >>= λ ms. p >>= λ es. Ok (if has_fields ps ms then d ∷ es else es)) ≡ (a >>= λ ms. Ok (if has_fields ps ms then d ∷ [] else [])) >>= λ ys. q >>= λ zs. Ok (ys ++ zs)
-having_step (Ok ms) ps d p q e = ap (λ b. b >>= λ es. Ok (if has_fields ps ms then d ∷ es else es)) e ∙ ap (λ (g : List Plain → List Plain). q >>= λ zs. Ok (g zs)) (λ i zs. kept (has_fields ps ms) d zs i)
-having_step (Err e) ps d p q h = refl
-
-having_as : (ps vs : List Plain) → having ps vs ≡ each_joined (having_one ps) vs
-having_as ps [] = refl
-having_as ps (null ∷ vs) = having_as ps vs ∙ sym (then_ok (each_joined (having_one ps) vs))
-having_as ps (low ∷ vs) = having_step (as_object low) ps low (having ps vs) (each_joined (having_one ps) vs) (having_as ps vs)
-having_as ps (array us ∷ vs) = having_step (as_object (array us)) ps (array us) (having ps vs) (each_joined (having_one ps) vs) (having_as ps vs)
-having_as ps (boolean b ∷ vs) = having_step (as_object (boolean b)) ps (boolean b) (having ps vs) (each_joined (having_one ps) vs) (having_as ps vs)
-having_as ps (number n ∷ vs) = having_step (as_object (number n)) ps (number n) (having ps vs) (each_joined (having_one ps) vs) (having_as ps vs)
-having_as ps (object ms ∷ vs) = having_step (as_object (object ms)) ps (object ms) (having ps vs) (each_joined (having_one ps) vs) (having_as ps vs)
-having_as ps (binary s ∷ vs) = having_step (as_object (binary s)) ps (binary s) (having ps vs) (each_joined (having_one ps) vs) (having_as ps vs)
-having_as ps (time t ∷ vs) = having_step (as_object (time t)) ps (time t) (having ps vs) (each_joined (having_one ps) vs) (having_as ps vs)
-having_as ps (text s ∷ vs) = having_step (as_object (text s)) ps (text s) (having ps vs) (each_joined (having_one ps) vs) (having_as ps vs)
-having_as ps (high ∷ vs) = having_step (as_object high) ps high (having ps vs) (each_joined (having_one ps) vs) (having_as ps vs)
-
 map_append : (g : Plain → Plain) (us vs : List Plain) → map g (us ++ vs) ≡ map g us ++ map g vs
 map_append g [] vs = refl
 map_append g (u ∷ us) vs = ap (λ xs. g u ∷ xs) (map_append g us vs)
@@ -180,7 +161,7 @@ merge_is w calls gs opts m vs h =
     ∙ ap (λ a. a >>= λ ws. Ok (like m ws)) (on_each_as (λ d. merged_on calls d gs) vs)
 
 by_having : (m : Meant) (vs : List Plain) (a : Answer (List Plain)) → (a >>= λ ps. has_fields_of m ps (elements vs)) ≡ (staged_by (by_answer a (λ ps. going (having_one ps))) vs >>= λ ws. Ok (like m ws))
-by_having m vs (Ok ps) = ap (λ a. a >>= λ ws. Ok (like m ws)) (having_as ps vs)
+by_having m vs (Ok ps) = refl
 by_having m vs (Err e) = refl
 
 having_is : IsStage like has_fields_rule having_stage
@@ -188,7 +169,7 @@ having_is w calls gs opts m vs h = ap (λ a. a >>= λ s. patterns gs >>= λ ps. 
 
 by_with_fields : (vs : List Plain) (a : Answer (List Plain))
     → (a >>= λ ps. having ps vs >>= λ es. Ok (map (pluck ps) es)) ≡ staged_by (by_answer a (λ ps. going (λ d. having_one ps d >>= λ es. Ok (map (pluck ps) es)))) vs
-by_with_fields vs (Ok ps) = ap (λ b. b >>= λ es. Ok (map (pluck ps) es)) (having_as ps vs) ∙ map_joined (pluck ps) (having_one ps) vs
+by_with_fields vs (Ok ps) = map_joined (pluck ps) (having_one ps) vs
 by_with_fields vs (Err e) = refl
 
 with_fields_is : IsStage like (like_first with_fields) with_fields_stage

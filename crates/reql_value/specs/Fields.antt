@@ -1,6 +1,6 @@
 -- GET_FIELD, BRACKET, HAS_FIELDS, PLUCK, WITHOUT, WITH_FIELDS, MERGE, KEYS, VALUES and OBJECT (ReQL API reference: getField, bracket,
 -- hasFields, pluck, without, withFields, merge, keys, values, object).
-use Rattle.std.specs.Prelude.{List, [], ◌∷◌, map, if◌then◌else◌, Option, Some, Ok, Err, codes}
+use Rattle.std.specs.Prelude.{List, [], ◌∷◌, Bool, map, if◌then◌else◌, Option, Some, Ok, Err, codes}
 use Rattle.std.specs.Option.{unwrap_or}
 use Rattle.reql_datum.specs.Answer.{Answer, ◌>>=◌}
 use Rattle.reql_datum.specs.Kinds.{is_literal}
@@ -8,7 +8,7 @@ use Rattle.reql_datum.specs.Plain.{Plain, array, boolean, null, number, object, 
 use Rattle.reql_rules.specs.Faults.{field_of_null, misplaced}
 use Rattle.reql_rules.specs.Fields.{get_field, get_fields, on_each}
 use Rattle.reql_rules.specs.Types as types
-use Rattle.reql_rules.specs.Lists.{Bytes, each, object_of}
+use Rattle.reql_rules.specs.Lists.{Bytes, each, each_joined, object_of}
 use Rattle.reql_rules.specs.Merging.{merge}
 use Rattle.reql_rules.specs.Objects.{keys, values, object_by}
 use Rattle.reql_rules.specs.Patterns.{as_pattern, has_fields, pluck}
@@ -77,17 +77,19 @@ bracket w calls gs opts = Err misplaced
 abbrev pub patterns : List Given → Answer (List Plain)
 patterns gs = each (λ g. as_datum g >>= as_pattern) gs
 
--- the elements that have all; null has nothing
+abbrev pub has_all : List Plain → Plain → Answer Bool
+has_all ps d = types.as_object d >>= λ ms. Ok (has_fields ps ms)
+
+-- an element, if it has all; null has nothing
+abbrev pub having_one : List Plain → Plain → Answer (List Plain)
+having_one ps null = Ok []
+having_one ps d = has_all ps d >>= λ b. Ok (if b then d ∷ [] else [])
+
 abbrev pub having : List Plain → List Plain → Answer (List Plain)
-having ps [] = Ok []
-having ps (null ∷ ds) = having ps ds
-having ps (d ∷ ds) = do
-  ms ← types.as_object d
-  es ← having ps ds
-  Ok (if has_fields ps ms then d ∷ es else es)
+having ps ds = each_joined (having_one ps) ds
 
 abbrev pub has_fields_of : Meant → List Plain → Subject → Answer Meant
-has_fields_of m ps (object_alone d) = types.as_object d >>= λ ms. Ok (one (boolean (has_fields ps ms)))
+has_fields_of m ps (object_alone d) = has_all ps d >>= λ b. Ok (one (boolean b))
 has_fields_of m ps (elements ds) = having ps ds >>= λ es. Ok (like m es)
 
 abbrev pub has_fields_rule : Rule

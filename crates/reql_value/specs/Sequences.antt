@@ -64,12 +64,15 @@ filter_rule w calls (s ∷ f ∷ []) opts = do
   in_its_place d.1 (filter_all d.0 (answer_test calls f) ds)
 filter_rule w calls gs opts = Err misplaced
 
+abbrev pub count_elements : World → Meant → Answer ℕ
+count_elements w m = to_sequence w m >>= λ ds. Ok (length ds)
+
 -- names of an object, characters of a text, bytes of a binary, elements of a sequence
 abbrev pub count_datum : World → Meant → Option Plain → Answer ℕ
 count_datum w m (Some (text s)) = Ok (length (chars s))
 count_datum w m (Some (binary s)) = Ok (length s)
-count_datum w m (Some (object ms)) = if is_literal ms then (to_sequence w m >>= λ ds. Ok (length ds)) else Ok (length (members ms))
-count_datum w m d = to_sequence w m >>= λ ds. Ok (length ds)
+count_datum w m (Some (object ms)) = if is_literal ms then count_elements w m else Ok (length (members ms))
+count_datum w m d = count_elements w m
 
 abbrev pub count_rule : Gives Plain
 count_rule w calls (s ∷ []) opts = do

@@ -2,15 +2,14 @@
 use Rattle.std.specs.Prelude.{◌≡◌, List, [], ◌∷◌, map, if◌then◌else◌, Option, Some, None, Ok, Err, codes}
 use Rattle.reql_datum.specs.Answer.{Answer, ◌>>=◌, Reason}
 use Rattle.reql_datum.specs.Members.{find}
-use Rattle.reql_datum.specs.Plain.{Plain, null}
+use Rattle.reql_datum.specs.Plain.{Plain}
 use Rattle.reql_rules.specs.Faults.{misplaced}
 use Rattle.reql_rules.specs.Fields.{on_objects}
 use Rattle.reql_rules.specs.Lists.{each_joined}
 use Rattle.reql_rules.specs.Mapping.{tested}
-use Rattle.reql_rules.specs.Patterns.{has_fields, pluck, without}
-use Rattle.reql_rules.specs.Types.{as_object}
+use Rattle.reql_rules.specs.Patterns.{pluck, without}
 use Rattle.reql_value.specs.Called.{answer_one, answer_test}
-use Rattle.reql_value.specs.Fields.{patterns, has_fields_rule, with_fields, by_patterns, merge_rule, merged_on}
+use Rattle.reql_value.specs.Fields.{patterns, having_one, has_fields_rule, with_fields, by_patterns, merge_rule, merged_on}
 use Rattle.reql_value.specs.Meant.{Meant, Given, given, Calls, Options, Rule}
 use Rattle.reql_value.specs.Sequenced.{like, alike, like_first, alike_first}
 use Rattle.reql_value.specs.Sequences.{map_rule, filter_rule, default_given, in_its_place}
@@ -63,11 +62,6 @@ pattern_stage f calls gs opts = by_answer (patterns gs) (λ ps. mapping (on_obje
 
 abbrev pub merge_stage : StageBy
 merge_stage calls gs opts = mapping (on_objects (λ d. merged_on calls d gs))
-
--- an element that has all; null has nothing
-abbrev pub having_one : List Plain → Plain → Answer (List Plain)
-having_one ps null = Ok []
-having_one ps d = as_object d >>= λ ms. Ok (if has_fields ps ms then d ∷ [] else [])
 
 abbrev pub having_stage : StageBy
 having_stage calls gs opts = by_answer (patterns gs) (λ ps. going (having_one ps))

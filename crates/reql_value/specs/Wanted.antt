@@ -4,19 +4,14 @@ use Rattle.std.specs.Option.{unwrap_or}
 use Rattle.reql_datum.specs.Answer.{Answer, ◌>>=◌, Reason}
 use Rattle.reql_datum.specs.Members.{find}
 use Rattle.reql_datum.specs.Plain.{Plain, null}
-use Rattle.reql_rules.specs.Faults.{type_fault, null_fault, bad_option}
-use Rattle.reql_rules.specs.Types.{object_in, number_in, text_in, items_in, same_text}
+use Rattle.reql_rules.specs.Faults.{bad_option}
+use Rattle.reql_rules.specs.Types.{mistyped, wanted, object_in, number_in, text_in, items_in, same_text}
 use Rattle.reql_rules.specs.Lists.{Bytes, each}
 use Rattle.reql_value.specs.World.{World, View, view_at, documents_of}
 use Rattle.reql_value.specs.Meant.{Meant, one, stream, selection, row, table, Given, Options, name_of, is_nothing, meant_of}
 
 abbrev pub wrong : Bytes → Meant → Reason
-wrong want m = if is_nothing m then null_fault want else type_fault want (name_of m)
-
-module _ {A : Type 0} where
-  abbrev pub wanted : Bytes → Meant → Option A → Answer A
-  wanted want m None = Err (wrong want m)
-  wanted want m (Some x) = Ok x
+wrong want m = mistyped want (is_nothing m) (name_of m)
 
 -- a value, or a row as its document or null
 abbrev pub datum_in : Meant → Option Plain
@@ -29,10 +24,10 @@ value_in (one d) = Some d
 value_in m = None
 
 abbrev pub to_datum : Meant → Answer Plain
-to_datum m = wanted (codes "DATUM") m (datum_in m)
+to_datum m = wanted (wrong (codes "DATUM") m) (datum_in m)
 
 abbrev pub to_sequence : World → Meant → Answer (List Plain)
-to_sequence w (one d) = wanted (codes "SEQUENCE") (one d) (items_in d)
+to_sequence w (one d) = wanted (wrong (codes "SEQUENCE") (one d)) (items_in d)
 to_sequence w (stream ds) = Ok ds
 to_sequence w (selection n k ds) = Ok ds
 to_sequence w (table n) = view_at w n >>= λ v. Ok (documents_of v)
@@ -44,7 +39,7 @@ to_table w (table n) = view_at w n >>= λ v. Ok (n, v)
 to_table w m = Err (wrong (codes "TABLE") m)
 
 abbrev pub to_object : Meant → Answer (List (Bytes × Plain))
-to_object m = wanted (codes "OBJECT") m (option_and_then object_in (datum_in m))
+to_object m = wanted (wrong (codes "OBJECT") m) (option_and_then object_in (datum_in m))
 
 -- the same of arguments
 
@@ -59,7 +54,7 @@ abbrev pub seen : Given → Option Plain
 seen g = value_in (meant_of g)
 
 abbrev pub as_one : {A : Type 0} → Bytes → (Plain → Option A) → Given → Answer A
-as_one want f g = wanted want (meant_of g) (option_and_then f (seen g))
+as_one want f g = wanted (wrong want (meant_of g)) (option_and_then f (seen g))
 
 abbrev pub as_number : Given → Answer ℤ
 as_number g = as_one (codes "NUMBER") number_in g
