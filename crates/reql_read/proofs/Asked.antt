@@ -4,7 +4,7 @@ use Rattle.serde_json.specs.Data.{Data, null, boolean, number, string, Items, no
 use Rattle.serde_json.specs.Data as json
 use Rattle.reql_datum.specs.Answer.{◌>>=◌}
 use Rattle.reql_term.specs.Form.{Form}
-use Rattle.reql_read.specs.Apart.{ended, options_in, started, started_by, asked_kind, asked_parts, asked_of, done}
+use Rattle.reql_read.specs.Apart.{ended, started, started_by, asked_kind, asked_parts, asked_of, done}
 use Rattle.reql_read.specs.Globals.{settings_of}
 use Rattle.reql_read.specs.Query.{Asked, asked_by, query}
 use Rattle.reql_read.specs.Query as asked

@@ -1,11 +1,10 @@
 -- A term that is spelled reads back.
-use Rattle.std.proofs.Common.{◌≡◌, ℕ, suc, ◌≤◌, List, [], ◌∷◌, ◌++◌, Bool, true, false, ◌&&◌, not, nat_eq, nat_le, is_some, Some, Result, Ok, Err, refl, sym, ap, subst, ◌∙◌, arith, append_assoc}
+use Rattle.std.proofs.Common.{◌≡◌, ℕ, suc, ◌≤◌, List, [], ◌∷◌, ◌++◌, Bool, true, false, ◌&&◌, not, nat_eq, nat_le, is_some, Some, Ok, Err, refl, sym, ap, ◌∙◌, arith, append_assoc}
 use Rattle.std.proofs.lemmas.Bool.Decides.{nat_tests}
 use Rattle.std.proofs.lemmas.List.{append-nil}
 use Rattle.serde_json.specs.Data as json
 use Rattle.serde_json.specs.Find.{get_member}
 use Rattle.serde_json.specs.Written.{compact_text}
-use Rattle.reql_datum.specs.Answer.{◌>>=◌}
 use Rattle.reql_datum.specs.Plain.{Plain, low, array, boolean, null, number, object, binary, time, text, high}
 use Rattle.reql_json.specs.Reading.{reserved}
 use Rattle.reql_term.specs.Form.{Form, literal, several, keyed, variable, implicit, function, slot, operation, Forms, no_forms, form, NamedForms, no_named, named, forms_of, named_of}
@@ -16,13 +15,12 @@ use Rattle.reql_term.specs.declared.op.Op.TheVariants as op
 use Rattle.reql_term.proofs.Numbers.{numbered, byte}
 use Rattle.reql_read.specs.Apart.{written}
 use Rattle.reql_read.specs.Globals.{settings_of}
-use Rattle.reql_read.specs.Query.{start, query, query_text, value_query}
+use Rattle.reql_read.specs.Query.{start, query, value_query}
 use Rattle.reql_read.specs.Reading.{op_named, counted, all_taken, checked, read, read_all, read_named}
-use Rattle.reql_read.specs.Shape.{kind_of, object_of, is_new, ids_from, ids_of, term_of, shaped, shaped_all, shaped_named}
-use Rattle.reql_read.specs.Spelling.{spelled_number, call, spelled_ids, one, spelled_literal, spelled, spelled_all, spelled_named, IsLiteral, count_of, takes_all, IsHeld, AreHeld, AreNamedHeld, spelled_query, FitsBody, ReadsBack}
+use Rattle.reql_read.specs.Shape.{kind_of, object_of, is_new, ids_from, term_of, shaped, shaped_all, shaped_named}
+use Rattle.reql_read.specs.Spelling.{spelled_number, call, spelled_ids, one, spelled_literal, spelled, spelled_all, spelled_named, count_of, takes_all, IsHeld, AreHeld, AreNamedHeld, spelled_query, ReadsBack}
 use Rattle.reql_read.specs.Written.{Written, Parts, NamedParts, names_of}
 use Rattle.reql_read.specs.Written as w
-use Rattle.reql_read.specs.declared.fault.ReadFault.{ReadFault}
 use Rattle.reql_read.specs.declared.fault.ReadFault.TheVariants.{NotJson}
 use Rattle.reql_read.specs.declared.globals.Settings.{Settings}
 use Rattle.reql_read.specs.declared.shape.Kind.TheVariants as kind

@@ -1,5 +1,5 @@
 -- JSON that has a text of its own is read from it.
-use Rattle.std.proofs.Common.{◌≡◌, ℕ, suc, ◌^◌, ◌<◌, ◌≤◌, ℤ, pos, negsuc, List, [], ◌∷◌, ◌++◌, Bool, true, false, Option, Some, None, option_map, option_and_then, Less, Greater, refl, sym, ap, subst, ◌∙◌, arith}
+use Rattle.std.proofs.Common.{◌≡◌, ℕ, suc, ◌≤◌, pos, negsuc, List, [], ◌∷◌, Bool, true, false, Some, option_map, option_and_then, Less, Greater, refl, sym, ap, subst, ◌∙◌, arith}
 use Rattle.std.specs.Str.{IsUtf8}
 use Rattle.std.proofs.lemmas.List.{append-nil}
 use Rattle.std.proofs.lemmas.Str.{IsUtf8-append, IsUtf8-nil, IsUtf8-from_ascii}
@@ -19,13 +19,13 @@ use Rattle.json.proofs.Printed.Decimals.{IsNumber-decimal, IsNumber-signed_decim
 use Rattle.json.proofs.Printed.Tokens.{tokens-print}
 use Rattle.json.proofs.Printed.Trees.{value-json_tokens, ArePrintable-json_tokens}
 use Rattle.json.proofs.Printed.Utf8.{are_ascii, IsUtf8-are_ascii, IsUtf8-quoted, IsUtf8-boolean}
-use Rattle.serde_json.specs.Data.{Num, unsigned, negative, float, Data, null, boolean, number, string, array, object, Items, no_items, item, Members, no_members, member, put, depth, items_depth, members_depth}
-use Rattle.serde_json.specs.Read.{read, max_depth, of_json, of_items, of_members, number_of}
-use Rattle.serde_json.specs.Written.{number_text, outline, items_outline, members_outline, compact_text, items_text, members_text, comma_if}
+use Rattle.serde_json.specs.Data.{unsigned, negative, float, Data, null, boolean, number, string, array, object, Items, no_items, item, Members, no_members, member, put, depth, items_depth, members_depth}
+use Rattle.serde_json.specs.Read.{read, max_depth, of_json, of_items, of_members}
+use Rattle.serde_json.specs.Written.{outline, items_outline, members_outline, compact_text, items_text, members_text, comma_if}
 use Rattle.serde_json.proofs.Numbers.{number_of-decimal, number_of-negative}
 use Rattle.serde_json.proofs.Texts.{print-outline}
 use Rattle.reql_datum.specs.Members.{AreRising}
-use Rattle.reql_read.specs.Spelling.{IsWord, HasText, HaveText, MembersHaveText, members_list}
+use Rattle.reql_read.specs.Spelling.{HasText, HaveText, MembersHaveText, members_list}
 
 -- ---- the numbers and the depth of what is printed
 

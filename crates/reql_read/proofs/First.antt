@@ -1,5 +1,5 @@
 -- The fault that is told is the first of the list of all.
-use Rattle.std.proofs.Common.{◌≡◌, ℕ, List, [], ◌∷◌, ◌++◌, append_assoc, map, Bool, true, false, not, ◌&&◌, nat_le, if◌then◌else◌, is_some, Option, Some, None, Result, Ok, Err, refl, sym, ap, subst, ◌∙◌}
+use Rattle.std.proofs.Common.{◌≡◌, ℕ, List, [], ◌∷◌, ◌++◌, append_assoc, map, Bool, true, false, not, ◌&&◌, nat_le, if◌then◌else◌, is_some, Option, Some, None, Result, Ok, Err, refl, sym, ap, subst}
 use Rattle.std.specs.List.{filter, flat_map}
 use Rattle.std.proofs.lemmas.Grind.{flat_map-append}
 use Rattle.std.proofs.lemmas.List.{append-nil}
@@ -12,9 +12,8 @@ use Rattle.reql_json.specs.declared.fault.JsonFault.{JsonFault}
 use Rattle.reql_term.specs.Table.{op_of, fits, takes}
 use Rattle.reql_term.specs.declared.op.Op.{Op}
 use Rattle.reql_term.specs.declared.op.Op.TheVariants as op
-use Rattle.reql_read.specs.Faults.{parts_of, parts_of_all, parts_of_named, bad_names, bad_count, bad_value, bad_call, own_faults, term_faults, is_right, option_faults, faults_of, IsFirstOf, FirstFaultIsTold}
+use Rattle.reql_read.specs.Faults.{parts_of, parts_of_all, parts_of_named, bad_names, bad_count, bad_value, bad_call, own_faults, term_faults, is_right, option_faults, IsFirstOf, FirstFaultIsTold}
 use Rattle.reql_read.specs.Globals.{or_bad, db_in, as_whole, limit_of, batch_of, profile_of, choice_of, with_choice, settings_from, settings_of, usual}
-use Rattle.reql_read.specs.Query.{Asked, asked_by}
 use Rattle.reql_read.specs.Reading.{or_left_out, op_named, counted, all_taken, checked, literal_of, read, read_all, read_named}
 use Rattle.reql_read.specs.Shape as shape
 use Rattle.reql_read.specs.Written.{Names, Written, value, array, object, variable, row, function, call, Parts, no_parts, part, NamedParts, no_named, named, count_of, names_of}

@@ -5,7 +5,7 @@ use Rattle.std.specs.declared.cmp.Ordering.{Ordering}
 use Rattle.std.specs.Ordering.{nat_cmp, match_ordering}
 use Rattle.std.specs.Cmp.Lexicographic.{slice_cmp}
 use Rattle.serde_json.specs.Data as json
-use Rattle.serde_json.specs.Find.{as_integer, as_number, of_integer, get_member}
+use Rattle.serde_json.specs.Find.{as_integer, as_number, get_member}
 use Rattle.reql_datum.specs.Answer.{◌>>=◌}
 use Rattle.reql_datum.specs.Plain.{Plain}
 use Rattle.reql_datum.specs.Plain as plain
@@ -26,7 +26,7 @@ use Rattle.reql_term.proofs.Numbers.{named}
 use Rattle.reql_read.specs.Apart.{names_in}
 use Rattle.reql_read.specs.Reading.{literal_of, or_left_out, op_named, counted, all_taken, checked, read, read_all, read_named}
 use Rattle.reql_read.specs.Shape.{number_in, kind_of, object_of, id_of, is_new, ids_from, ids_of, term_of, shaped, shaped_term, shaped_all, shaped_named}
-use Rattle.reql_read.specs.Spelling.{spelled_literal, spelled_named, IsLiteral, count_of, takes_all, IsHeld, AreHeld, AreNamedHeld, ReadsHeld}
+use Rattle.reql_read.specs.Spelling.{spelled_named, IsLiteral, count_of, takes_all, IsHeld, AreHeld, AreNamedHeld}
 use Rattle.reql_read.specs.Written.{Names, Written, Parts, NamedParts, names_of}
 use Rattle.reql_read.specs.Written as w
 use Rattle.reql_read.specs.declared.fault.ReadFault.{ReadFault}
@@ -371,5 +371,5 @@ mutual
       ((held_by v a.0 g.0 a.1, more.0), ap (λ ks. k ∷ ks) more.1, λ x t. (let e = kept (takes x k) _ _ tt t in rw e.0 (more.2 x e.1))) in
       subst (NamedFacts (w.named k v vs)) (inside ((k, a.0) ∷ b.0) ms b.2) all
 
-pub held : ReadsHeld
+pub held : (d : json.Data) (w : Written) (f : Form) → shaped d ≡ Ok w → read w ≡ Ok f → IsHeld f
 held d v f is h = held_by v f (good d v is) h

@@ -10,3 +10,4 @@ pub mod BodyText
 pub mod First
 pub mod Back
 pub mod Held
+pub mod Whole

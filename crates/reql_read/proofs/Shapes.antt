@@ -1,15 +1,14 @@
 -- The shape of a term by its parts, as the walk takes it apart.
-use Rattle.std.proofs.Common.{◌≡◌, ℕ, suc, List, [], ◌∷◌, ◌++◌, Bool, true, false, if◌then◌else◌, is_some, Option, Some, None, option_and_then, Result, Ok, Err, length, get_or, drop, ◌<◌, ◌+◌, add-one, drop-cons, refl, sym, ap, subst, ◌∙◌}
+use Rattle.std.proofs.Common.{◌≡◌, ℕ, suc, List, [], ◌∷◌, ◌++◌, Bool, true, false, if◌then◌else◌, Option, Some, None, option_and_then, Result, Ok, Err, length, get_or, drop, ◌<◌, ◌+◌, add-one, drop-cons, refl, sym, ap, subst, ◌∙◌}
 use Rattle.serde_json.specs.Data.{Data, null, boolean, number, string, Items, no_items, item, Members, no_members, member}
 use Rattle.serde_json.specs.Data as json
-use Rattle.serde_json.specs.Find.{get_member, as_number, as_u64}
+use Rattle.serde_json.specs.Find.{as_number, as_u64}
 use Rattle.serde_json.specs.View.{view, items_view}
 use Rattle.serde_json.specs.declared.value.Value.{Value}
 use Rattle.reql_datum.specs.Answer.{◌>>=◌}
-use Rattle.reql_json.specs.Reading.{reserved}
 use Rattle.reql_read.specs.Apart.{ended, options_in, parts_after, parts_in, written, items_count, names_in, ids_among, ids_by, ids_in, done, one_fits, two_fit, formed}
-use Rattle.reql_read.specs.Shape.{or_shape, number_in, items_in, members_in, kind_of, object_of, id_of, is_new, ids_from, ids_of, term_of, shaped, shaped_term, shaped_all, shaped_named}
-use Rattle.reql_read.specs.Written.{Names, Written, value, array, object, variable, row, function, call, Parts, no_parts, part, NamedParts, no_named, named, count_of, names_of}
+use Rattle.reql_read.specs.Shape.{or_shape, number_in, kind_of, object_of, id_of, is_new, ids_from, ids_of, term_of, shaped, shaped_term, shaped_all, shaped_named}
+use Rattle.reql_read.specs.Written.{Written, value, array, object, row, call, Parts, no_parts, part, NamedParts, no_named, named, count_of, names_of}
 use Rattle.reql_read.specs.declared.fault.ReadFault.{ReadFault}
 use Rattle.reql_read.specs.declared.fault.ReadFault.TheVariants.{BadShape}
 use Rattle.reql_read.specs.declared.shape.Kind.{Kind}

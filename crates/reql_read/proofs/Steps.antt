@@ -6,9 +6,9 @@ use Rattle.reql_datum.specs.Answer.{◌>>=◌}
 use Rattle.reql_term.specs.Form.{Form}
 use Rattle.reql_read.specs.Reading.{read, read_all, read_named}
 use Rattle.reql_read.specs.Shape.{shaped, shaped_all, shaped_named}
-use Rattle.reql_read.specs.Written.{Written, Parts, no_parts, part, NamedParts, no_named, named}
+use Rattle.reql_read.specs.Written.{Written, Parts, NamedParts, no_named}
 use Rattle.reql_read.proofs.Shapes.{all_step, named_step, none_all}
-use Rattle.reql_read.proofs.Understood.{inside, then_failed}
+use Rattle.reql_read.proofs.Understood.{inside}
 use Rattle.reql_read.specs.declared.fault.ReadFault.{ReadFault}
 
 module _ {A B : Type 0} where

@@ -2,7 +2,6 @@
 use Rattle.std.proofs.Common.{◌≡◌, ℕ, suc, ◌-◌, ◌<◌, ◌≤◌, List, [], ◌∷◌, length, get_or, take, drop, Result, Ok, Err, refl, sym, ap, subst, ◌∙◌, arith}
 use Rattle.std.proofs.lemmas.List.{take_all}
 use Rattle.serde_json.specs.Data.{Data, Items, no_items, item, Members}
-use Rattle.serde_json.specs.Data as json
 use Rattle.serde_json.specs.View.{view, items_view}
 use Rattle.serde_json.specs.declared.value.Value.{Value}
 use Rattle.reql_datum.specs.Answer.{◌>>=◌}
@@ -15,10 +14,9 @@ use Rattle.reql_term.specs.declared.term.Term.{Term}
 use Rattle.reql_read.specs.Apart.{parts_in, items_count, names_in, ids_in, ReadsKind, ReadsCall}
 use Rattle.reql_read.specs.Outcome.{Understands}
 use Rattle.reql_read.specs.Reading.{read, read_all, read_named, all_taken, checked}
-use Rattle.reql_read.specs.Shape.{number_in, kind_of, id_of, ids_of, term_of, shaped, shaped_term, shaped_all, shaped_named}
-use Rattle.reql_read.specs.Written.{Names, Written, variable, function, call, Parts, no_parts, part, NamedParts, count_of, names_of}
+use Rattle.reql_read.specs.Shape.{number_in, kind_of, term_of, shaped, shaped_term, shaped_all, shaped_named}
+use Rattle.reql_read.specs.Written.{Names, Written, variable, function, call, Parts, part, NamedParts, count_of, names_of}
 use Rattle.reql_read.specs.declared.fault.ReadFault.{ReadFault}
-use Rattle.reql_read.specs.declared.shape.Kind.{Kind}
 use Rattle.reql_read.specs.declared.shape.Kind.TheVariants as kind
 use Rattle.reql_read.proofs.Shapes.{all_step, none_all, names_same, counts_same, id_same, ids_same, taken, whole_parts}
 use Rattle.reql_read.proofs.Weights.{count_seen}

@@ -10,7 +10,7 @@ use Rattle.reql_term.specs.Table.{op_of, number_of, fits, takes}
 use Rattle.reql_term.specs.declared.op.Op.{Op}
 use Rattle.reql_term.specs.declared.op.Op.TheVariants as op
 use Rattle.reql_read.specs.Globals.{as_whole, db_in, limit_of, batch_of, profile_of, choice_of}
-use Rattle.reql_read.specs.Query.{Asked, asked_by}
+use Rattle.reql_read.specs.Query.{asked_by}
 use Rattle.reql_read.specs.Shape.{Query, start}
 use Rattle.reql_read.specs.Written.{Names, Written, value, array, object, variable, row, function, call, Parts, no_parts, part, NamedParts, no_named, named, count_of, names_of}
 use Rattle.reql_read.specs.declared.fault.ReadFault.{ReadFault}

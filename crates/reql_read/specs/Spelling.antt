@@ -1,5 +1,5 @@
 -- A term spelled as the JSON of a body, as drivers write it, and which terms a body can hold.
-use Rattle.std.specs.Prelude.{◌≡◌, ℕ, suc, ◌^◌, ◌<◌, ◌≤◌, ℤ, pos, negsuc, List, [], ◌∷◌, Bool, true, false, ◌&&◌, is_some, Ok}
+use Rattle.std.specs.Prelude.{◌≡◌, ℕ, suc, ◌^◌, ◌<◌, ◌≤◌, pos, negsuc, List, [], ◌∷◌, Bool, true, false, ◌&&◌, is_some, Ok}
 use Rattle.std.specs.Str.{IsUtf8}
 use Rattle.serde_json.specs.Data as json
 use Rattle.serde_json.specs.Find.{of_integer, get_member}
@@ -16,9 +16,7 @@ use Rattle.reql_term.specs.declared.op.Op.{Op}
 use Rattle.reql_term.specs.declared.op.Op.TheVariants as op
 use Rattle.reql_read.specs.Globals.{settings_of}
 use Rattle.reql_read.specs.Query.{start, query_text}
-use Rattle.reql_read.specs.Reading.{read}
-use Rattle.reql_read.specs.Shape.{kind_of, shaped}
-use Rattle.reql_read.specs.Written.{Written}
+use Rattle.reql_read.specs.Shape.{kind_of}
 use Rattle.reql_read.specs.declared.globals.Settings.{Settings}
 use Rattle.reql_read.specs.declared.shape.Kind.TheVariants as kind
 
@@ -146,6 +144,6 @@ FitsBody f opts = record { held : IsHeld f; has_text : HasText (spelled_query f 
 abbrev pub ReadsBack : Type 0
 ReadsBack = (f : Form) (opts : json.Members) (s : Settings) → FitsBody f opts → settings_of opts ≡ Ok s → query_text (compact_text (spelled_query f opts)) ≡ Ok (start f s)
 
--- what is read is a term that a body can hold
+-- the term of a query that is read from a body is one that a body can hold
 abbrev pub ReadsHeld : Type 0
-ReadsHeld = (d : json.Data) (w : Written) (f : Form) → shaped d ≡ Ok w → read w ≡ Ok f → IsHeld f
+ReadsHeld = (body : List ℕ) (f : Form) (s : Settings) → query_text body ≡ Ok (start f s) → IsHeld f

@@ -22,37 +22,29 @@ fn number_text(fault: JsonFault) -> &'static str
 fn unknown(alloc: Global, number: u64) -> Result<Name, Memory>
     ensures { IfOk result (λ s. s ≡ unknown_text number) }
 {
-    match format!(in alloc; "Unknown term {}.", number) {
-        Ok(text) => Name::of(alloc, text.as_str()),
-        Err(_) => Err(Memory),
-    }
+    let text = format!(in alloc; "Unknown term {}.", number)?;
+    Name::of(alloc, text.as_str())
 }
 
 fn left_out(alloc: Global, number: u32) -> Result<Name, Memory>
     ensures { IfOk result (λ s. s ≡ left_out_text number) }
 {
-    match format!(in alloc; "Term {} is not supported.", number) {
-        Ok(text) => Name::of(alloc, text.as_str()),
-        Err(_) => Err(Memory),
-    }
+    let text = format!(in alloc; "Term {} is not supported.", number)?;
+    Name::of(alloc, text.as_str())
 }
 
 fn arity(alloc: Global, number: u32, count: u32) -> Result<Name, Memory>
     ensures { IfOk result (λ s. s ≡ arity_text number count) }
 {
-    match format!(in alloc; "Term {} does not take {} arguments.", number, count) {
-        Ok(text) => Name::of(alloc, text.as_str()),
-        Err(_) => Err(Memory),
-    }
+    let text = format!(in alloc; "Term {} does not take {} arguments.", number, count)?;
+    Name::of(alloc, text.as_str())
 }
 
 fn bad_option(alloc: Global, name: &Name) -> Result<Name, Memory>
     ensures { IfOk result (λ s. s ≡ option_text name.now) }
 {
-    match format!(in alloc; "Unrecognized optional argument `{}`.", name.as_str()) {
-        Ok(text) => Name::of(alloc, text.as_str()),
-        Err(_) => Err(Memory),
-    }
+    let text = format!(in alloc; "Unrecognized optional argument `{}`.", name.as_str())?;
+    Name::of(alloc, text.as_str())
 }
 
 impl ReadFault {

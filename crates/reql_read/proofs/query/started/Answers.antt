@@ -1,4 +1,3 @@
-use Rattle.std.proofs.Common.{◌≡◌, Ok, Err}
 use Rattle.serde_json.specs.View.{view}
 use Rattle.reql_term.specs.View.{form_of}
 use Rattle.reql_read.specs.Seen.{optional}

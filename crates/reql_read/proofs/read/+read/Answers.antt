@@ -1,21 +1,20 @@
-use Rattle.std.proofs.Common.{◌≡◌, ◌+◌, ◌∷◌, ◌++◌, [], Ok, Err, drop, string_bytes, arith, refl, sym, ap, subst, ◌∙◌}
+use Rattle.std.proofs.Common.{◌≡◌, ◌+◌, ◌∷◌, ◌++◌, [], Ok, drop, string_bytes, arith, sym, ap, subst, ◌∙◌}
 use Rattle.std.specs.Map.{keys_of}
 use Rattle.std.specs.List.Sorted.{IsStrictlySortedBy}
 use Rattle.serde_json.specs.View.{view, items_view, members_view}
 use Rattle.serde_json.proofs.Views.{view-Object}
-use Rattle.reql_datum.specs.Answer.{◌>>=◌}
 use Rattle.reql_datum.specs.Members.{text_order}
 use Rattle.reql_json.proofs.Rising.{Entry, names, put_last, names_step, rising_names}
 use Rattle.reql_term.specs.View.{form_of}
 use Rattle.reql_read.specs.Apart.{names_in}
 use Rattle.reql_read.specs.Outcome.{Understands}
-use Rattle.reql_read.specs.Reading.{read, read_named}
+use Rattle.reql_read.specs.Reading.{read}
 use Rattle.reql_read.specs.Seen.{optional, parts_seen, ids_seen}
 use Rattle.reql_read.specs.Shape.{shaped, shaped_all}
 use Rattle.reql_read.specs.Weight.{members_weight}
 use Rattle.reql_read.proofs.Shapes.{split_at}
-use Rattle.reql_read.proofs.Steps.{AllGoOn, NamedGoOn, all_begin, all_next, all_end, all_fail, named_begin, named_next, named_end, named_fail}
-use Rattle.reql_read.proofs.Taken.{rest, len_rest, no_item, one_item, two_items, count_is, array_fails, row_fails, variable_id_fails, variable_fails, variable_read, op_fails, args_fail, opts_fail, call_read, ids_fail, names_fail, id_names_fail, body_of, function_end, some_object, some_row, no_variable, no_function, term_read}
+use Rattle.reql_read.proofs.Steps.{AllGoOn, NamedGoOn, all_next, all_fail, named_begin, named_next, named_fail}
+use Rattle.reql_read.proofs.Taken.{rest, len_rest, no_item, one_item, two_items, count_is, array_fails, row_fails, variable_id_fails, variable_fails, op_fails, args_fail, opts_fail, call_read, ids_fail, names_fail, id_names_fail, body_of, function_end, some_object, some_row, no_variable, no_function, term_read}
 use Rattle.reql_read.proofs.Understood.{failed_on, bound, inside}
 use Rattle.reql_read.proofs.Weights.{left_weighs, count_seen}
 use Rattle.reql_read.proofs.read.+read.Goals as goal

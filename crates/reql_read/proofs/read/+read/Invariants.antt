@@ -1,7 +1,6 @@
-use Rattle.std.proofs.Common.{◌≡◌, ◌≤◌, ◌+◌, ◌*◌, ◌++◌, drop, Ok}
+use Rattle.std.proofs.Common.{◌≡◌, ◌≤◌, ◌+◌, ◌*◌, ◌++◌, drop}
 use Rattle.std.specs.Map.{keys_of}
 use Rattle.serde_json.specs.View.{view, items_view, members_view}
-use Rattle.reql_datum.specs.Answer.{◌>>=◌}
 use Rattle.reql_json.proofs.Rising.{names}
 use Rattle.reql_read.specs.Seen.{optional}
 use Rattle.reql_read.specs.Weight.{weight, items_weight, members_weight}

@@ -1,10 +1,10 @@
-use Rattle.std.proofs.Common.{◌≡◌, Ok, Err, drop, ◌+◌, refl, sym, ap, subst, ◌∙◌}
+use Rattle.std.proofs.Common.{drop, ◌+◌, sym, ap, subst, ◌∙◌}
 use Rattle.serde_json.specs.View.{view, items_view, members_view}
 use Rattle.serde_json.proofs.Views.{view-Object}
 use Rattle.reql_read.specs.Apart.{done, formed}
 use Rattle.reql_read.specs.Outcome.{Understands}
-use Rattle.reql_read.specs.Seen.{optional, parts_seen}
-use Rattle.reql_read.specs.Shape.{shaped, shaped_term, shaped_all, shaped_named}
+use Rattle.reql_read.specs.Seen.{parts_seen}
+use Rattle.reql_read.specs.Shape.{shaped, shaped_all}
 use Rattle.reql_read.proofs.Shapes.{term_done, args_fail, options_fail, item_done, item_fails, object_done, split_at}
 use Rattle.reql_read.proofs.Understood.{failed_on, is_done, not_done}
 use Rattle.reql_read.proofs.shape.+shape.Goals as goal
