@@ -19,7 +19,8 @@ use std::alloc::{AllocError, Global};
 const SHORT_BYTES: usize = 160;
 
 fn write_refusal(out: &mut Writer, kind: u8, why: &str) -> Result<(), AllocError>
-    ensures tokens { OnOk result (out.new.tokens ≡ out.old.tokens ++ json_tokens (outline (object (members_of (refusal_answer kind why.now))))) }
+    ensures tokens { OnOk result (out.new.tokens ≡ out.old.tokens
+        ++ json_tokens (outline (object (members_of (refusal_answer kind why.now))))) }
     ensures before { out.new.before ≡ out.old.before }
 {
     out.begin_object()?;
@@ -35,7 +36,9 @@ fn write_fault(
     why: &str,
     stamp: Option<Stamp<'_>>,
 ) -> Result<(), AllocError>
-    ensures tokens { OnOk result (out.new.tokens ≡ out.old.tokens ++ json_tokens (outline (object (members_of (fault_answer error why.now (option_map stamped_by stamp.entry)))))) }
+    ensures tokens { OnOk result (out.new.tokens ≡ out.old.tokens
+        ++ json_tokens (outline (object (members_of
+        (fault_answer error why.now (option_map stamped_by stamp.entry)))))) }
     ensures before { out.new.before ≡ out.old.before }
 {
     out.begin_object()?;
@@ -63,7 +66,8 @@ pub fn fault(
     why: &str,
     stamp: Option<Stamp<'_>>,
 ) -> Result<Vec<u8>, Memory>
-    ensures { IfOk result (λ b. b.items ≡ body (fault_answer error why.now (option_map stamped_by stamp.entry))) }
+    ensures { IfOk result (λ b. b.items ≡ body (fault_answer error why.now
+        (option_map stamped_by stamp.entry))) }
 {
     let mut out = Writer::new(Vec::with_capacity(alloc, SHORT_BYTES)?);
     write_fault(&mut out, error, why, stamp)?;

@@ -35,7 +35,8 @@ fn open(out: &mut Writer) -> Result<(), AllocError>
 
 // What stands after them.
 fn close(out: &mut Writer, stamp: Option<Stamp<'_>>) -> Result<(), AllocError>
-    ensures tokens { OnOk result (out.new.tokens ≡ out.old.tokens ++ closing 1 (option_map stamped_by stamp.entry)) }
+    ensures tokens { OnOk result (out.new.tokens ≡ out.old.tokens
+        ++ closing 1 (option_map stamped_by stamp.entry)) }
     ensures before { out.new.before ≡ out.old.before }
 {
     out.end_array()?;
@@ -49,7 +50,9 @@ fn atom_text(
     document: &Datum,
     stamp: Option<Stamp<'_>>,
 ) -> Result<Vec<u8>, ShowFault>
-    ensures { Shows (λ b. b.items) result (option_map (λ d. body (results 1 [] None (d ∷ []) (option_map stamped_by stamp.entry))) (value (plain document.now))) }
+    ensures { Shows (λ b. b.items) result (option_map
+        (λ d. body (results 1 [] None (d ∷ []) (option_map stamped_by stamp.entry)))
+        (value (plain document.now))) }
 {
     let mut out = Writer::new(Vec::with_capacity(alloc, FIRST_BYTES)?);
     open(&mut out)?;
@@ -60,7 +63,8 @@ fn atom_text(
 
 /// The answer of one document, type 1, or the fault that it can't be shown or is too long.
 pub fn atom(alloc: Global, document: &Datum, stamp: Option<Stamp<'_>>) -> Result<Vec<u8>, Memory>
-    ensures { IfOk result (λ b. b.items ≡ atom_answer (plain document.now) (option_map stamped_by stamp.entry)) }
+    ensures { IfOk result (λ b. b.items ≡ atom_answer (plain document.now)
+        (option_map stamped_by stamp.entry)) }
 {
     match atom_text(alloc, document, stamp) {
         Ok(body) => {

@@ -16,7 +16,8 @@ use std::alloc::AllocError;
 
 /// The empty list of a name.
 pub(crate) fn write_none(out: &mut Writer, name: &str) -> Result<(), AllocError>
-    ensures tokens { OnOk result (out.new.tokens ≡ out.old.tokens ++ member_tokens ((name.now, array_of []) ∷ [])) }
+    ensures tokens { OnOk result (out.new.tokens ≡ out.old.tokens
+        ++ member_tokens ((name.now, array_of []) ∷ [])) }
     ensures before { out.new.before ≡ out.old.before }
 {
     out.key(name)?;
@@ -26,7 +27,8 @@ pub(crate) fn write_none(out: &mut Writer, name: &str) -> Result<(), AllocError>
 
 /// The text of a fault, as the one result.
 pub(crate) fn write_why(out: &mut Writer, why: &str) -> Result<(), AllocError>
-    ensures tokens { OnOk result (out.new.tokens ≡ out.old.tokens ++ member_tokens ((codes "r", array_of (string why.now ∷ [])) ∷ [])) }
+    ensures tokens { OnOk result (out.new.tokens ≡ out.old.tokens
+        ++ member_tokens ((codes "r", array_of (string why.now ∷ [])) ∷ [])) }
     ensures before { out.new.before ≡ out.old.before }
 {
     out.key("r")?;
@@ -37,7 +39,8 @@ pub(crate) fn write_why(out: &mut Writer, why: &str) -> Result<(), AllocError>
 
 /// The code of a fault of running.
 pub(crate) fn write_code(out: &mut Writer, error: ErrorType) -> Result<(), AllocError>
-    ensures tokens { OnOk result (out.new.tokens ≡ out.old.tokens ++ member_tokens ((codes "e", whole (code_of error)) ∷ [])) }
+    ensures tokens { OnOk result (out.new.tokens ≡ out.old.tokens
+        ++ member_tokens ((codes "e", whole (code_of error)) ∷ [])) }
     ensures before { out.new.before ≡ out.old.before }
 {
     out.key("e")?;
@@ -46,7 +49,8 @@ pub(crate) fn write_code(out: &mut Writer, error: ErrorType) -> Result<(), Alloc
 
 /// The type of the answer.
 pub(crate) fn write_type(out: &mut Writer, kind: u8) -> Result<(), AllocError>
-    ensures tokens { OnOk result (out.new.tokens ≡ out.old.tokens ++ member_tokens ((codes "t", whole kind) ∷ [])) }
+    ensures tokens { OnOk result (out.new.tokens ≡ out.old.tokens
+        ++ member_tokens ((codes "t", whole kind) ∷ [])) }
     ensures before { out.new.before ≡ out.old.before }
 {
     out.key("t")?;
@@ -54,7 +58,8 @@ pub(crate) fn write_type(out: &mut Writer, kind: u8) -> Result<(), AllocError>
 }
 
 fn write_point(out: &mut Writer, point: Point) -> Result<(), AllocError>
-    ensures tokens { OnOk result (out.new.tokens ≡ out.old.tokens ++ json_tokens (outline (point_of point))) }
+    ensures tokens { OnOk result (out.new.tokens ≡ out.old.tokens
+        ++ json_tokens (outline (point_of point))) }
     ensures before { out.new.before ≡ out.old.before }
 {
     out.begin_array()?;
@@ -80,7 +85,9 @@ fn write_points(out: &mut Writer, points: &[Point]) -> Result<(), AllocError>
 
 /// The points that the answer names, where it names any.
 pub(crate) fn write_stamp(out: &mut Writer, stamp: Option<Stamp<'_>>) -> Result<(), AllocError>
-    ensures tokens { OnOk result (out.new.tokens ≡ out.old.tokens ++ member_tokens (also (codes "s") (option_map stamp_value (option_map stamped_by stamp.entry)))) }
+    ensures tokens { OnOk result (out.new.tokens ≡ out.old.tokens
+        ++ member_tokens (also (codes "s") (option_map stamp_value
+        (option_map stamped_by stamp.entry)))) }
     ensures before { out.new.before ≡ out.old.before }
 {
     let Some(stamp) = stamp else {

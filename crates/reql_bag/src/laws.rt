@@ -8,8 +8,10 @@ ghost use Rattle.reql_bag.specs.Bag.{times, IsRising, in_order, less_all};
 #[tactic(auto, using(crate::proofs::Bags::times_sorted, crate::proofs::Bags::times_less_all, crate::proofs::Rising::rising_sorted, crate::proofs::Rising::rising_less_all))]
 pub fn bag_laws()
     ensures sorting { (v : Plain) (xs : List Plain) → times v (in_order xs) ≡ times v xs }
-    ensures difference { (v : Plain) (xs ys : List Plain) → times v (less_all xs ys) ≡ times v xs - times v ys }
+    ensures difference { (v : Plain) (xs ys : List Plain)
+        → times v (less_all xs ys) ≡ times v xs - times v ys }
     ensures in_order { (xs : List Plain) → IsRising (in_order xs) }
     ensures rest_in_order { (xs ys : List Plain) → IsRising xs → IsRising (less_all xs ys) }
-    ensures by_counts { (xs ys : List Plain) → IsRising xs → IsRising ys → ((v : Plain) → times v xs ≡ times v ys) → xs ≡ ys }
+    ensures by_counts { (xs ys : List Plain) → IsRising xs → IsRising ys
+        → ((v : Plain) → times v xs ≡ times v ys) → xs ≡ ys }
 {}

@@ -45,7 +45,8 @@ impl Blob {
     #[tactic(auto, using(crate::proofs::Order::text_says))]
     pub fn order(&self, bytes: &[u8]) -> Ordering
         ensures answer { result ≡ text_order self.now bytes.now }
-        ensures meaning { MatchOrdering result (text_less self.now bytes.now) (self.now ≡ bytes.now) (text_less bytes.now self.now) }
+        ensures meaning { MatchOrdering result (text_less self.now bytes.now) (self.now ≡ bytes.now)
+            (text_less bytes.now self.now) }
     {
         self.as_bytes().cmp(bytes)
     }

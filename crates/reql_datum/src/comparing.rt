@@ -35,7 +35,8 @@ fn rank(d: &Datum) -> u8
 #[tactic(auto, using(crate::proofs::Order::order_says))]
 pub fn compare(a: &Datum, b: &Datum) -> Ordering
     ensures answer { result ≡ order (plain a.now) (plain b.now) }
-    ensures meaning { MatchOrdering result (less (plain a.now) (plain b.now)) (plain a.now ≡ plain b.now) (less (plain b.now) (plain a.now)) }
+    ensures meaning { MatchOrdering result (less (plain a.now) (plain b.now))
+        (plain a.now ≡ plain b.now) (less (plain b.now) (plain a.now)) }
 {
     ordered(a, b)
 }

@@ -57,7 +57,8 @@ impl Fields {
     /// Puts a value at a name, and gives the value that it replaced.
     pub fn put(&mut self, name: Name, value: Datum) -> Result<Option<Datum>, Refused<(Name, Datum)>>
         ensures replaced { IfOk result (λ old. option_map plain old ≡ find name self.old) }
-        ensures members { self.new ≡ (if is_ok result then put name (plain value) self.old else self.old) }
+        ensures members { self.new ≡ (if is_ok result then put name (plain value) self.old
+            else self.old) }
         ensures back { IfErr result (λ refused. refused.back ≡ (name, value)) }
     {
         let new = member_shape(&name, &value);
@@ -78,7 +79,8 @@ impl Fields {
     /// copied.
     pub fn remove(&mut self, name: &str) -> Result<Option<Datum>, Memory>
         ensures removed { IfOk result (λ old. option_map plain old ≡ find name.now self.old) }
-        ensures members { self.new ≡ (if is_ok result then without name.now self.old else self.old) }
+        ensures members { self.new ≡ (if is_ok result then without name.now self.old
+            else self.old) }
     {
         let Some(old) = sorted_map::remove_shared(self.alloc, &mut self.held, &name)? else {
             return Ok(None);
@@ -130,8 +132,10 @@ impl Fields {
 
     /// The member at a place. With `rest`, a loop over the places proves itself.
     pub fn at(&self, place: usize) -> Option<(&Name, &Datum)>
-        ensures found { option_map (λ m. (m.0.now, plain m.1.now)) result ≡ slice_get self.now place }
-        ensures rest { MatchOption result (drop place self.now ≡ []) (λ m. drop place self.now ≡ (m.0.now, plain m.1.now) ∷ drop (place + 1) self.now) }
+        ensures found { option_map (λ m. (m.0.now, plain m.1.now)) result
+            ≡ slice_get self.now place }
+        ensures rest { MatchOption result (drop place self.now ≡ [])
+            (λ m. drop place self.now ≡ (m.0.now, plain m.1.now) ∷ drop (place + 1) self.now) }
         ensures place_fits { OnSome result (place < 2 ^ 63) }
         ensures rising { AreRising self.now }
     {
@@ -139,7 +143,8 @@ impl Fields {
     }
 
     fn seek(&self, place: usize) -> Option<(&Name, &Datum)>
-        ensures found { option_map (λ m. (m.0.now, plain m.1.now)) result ≡ slice_get self.now place }
+        ensures found { option_map (λ m. (m.0.now, plain m.1.now)) result
+            ≡ slice_get self.now place }
         ensures place_fits { OnSome result (place < 2 ^ 63) }
         ensures rising { AreRising self.now }
     {

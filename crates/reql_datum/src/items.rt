@@ -59,7 +59,8 @@ impl Items {
     /// The item at a place. With `rest`, a loop over the places proves itself.
     pub fn at(&self, place: usize) -> Option<&Datum>
         ensures found { option_map (λ d. plain d.now) result ≡ slice_get self.now place }
-        ensures rest { MatchOption result (drop place self.now ≡ []) (λ d. drop place self.now ≡ plain d.now ∷ drop (place + 1) self.now) }
+        ensures rest { MatchOption result (drop place self.now ≡ [])
+            (λ d. drop place self.now ≡ plain d.now ∷ drop (place + 1) self.now) }
         ensures place_fits { OnSome result (place < 2 ^ 63) }
     {
         self.seek(place)
@@ -74,7 +75,8 @@ impl Items {
 
     /// Adds an item at the end, in place where the list isn't shared.
     pub fn push(&mut self, item: Datum) -> Result<(), Refused<Datum>>
-        ensures items { self.new ≡ (if is_ok result then self.old ++ plain item ∷ [] else self.old) }
+        ensures items { self.new ≡ (if is_ok result then self.old ++ plain item ∷ []
+            else self.old) }
         ensures back { IfErr result (λ refused. refused.back ≡ item) }
     {
         let shape = self.shape.beside(item.shape());

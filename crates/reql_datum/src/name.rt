@@ -45,7 +45,8 @@ impl Name {
     #[tactic(auto, using(crate::proofs::Order::text_says))]
     pub fn order(&self, text: &str) -> Ordering
         ensures answer { result ≡ text_order self.now text.now }
-        ensures meaning { MatchOrdering result (text_less self.now text.now) (self.now ≡ text.now) (text_less text.now self.now) }
+        ensures meaning { MatchOrdering result (text_less self.now text.now) (self.now ≡ text.now)
+            (text_less text.now self.now) }
     {
         self.as_str().cmp(text)
     }

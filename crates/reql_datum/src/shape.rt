@@ -69,7 +69,8 @@ fn shape_of_all(fields: &[Field]) -> Shape
 /// of the new shape, or went, which is no shape. It looks at the members that are there now only
 /// where the old one may have made the difference.
 pub(crate) fn shape_after(shape: Shape, old: Shape, new: Shape, fields: &[Field]) -> Shape
-    ensures { (rest : Shape) → IsLeft shape old.depth rest → members_shape (map member fields.now) ≡ beside new rest → result ≡ beside new rest }
+    ensures { (rest : Shape) → IsLeft shape old.depth rest
+        → members_shape (map member fields.now) ≡ beside new rest → result ≡ beside new rest }
 {
     if shape.storable && (old.depth <= new.depth || old.depth < shape.depth) {
         shape.beside(new)

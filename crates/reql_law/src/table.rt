@@ -71,7 +71,8 @@ impl PlainTable {
     pub fn look(&self, key: &Datum) -> Seen<'_>
         ensures place { result.place ≡ (replay self.now).place }
         ensures stamp { result.stamp ≡ (replay self.now).stamp }
-        ensures doc { option_map (λ d. plain d.now) result.doc ≡ find_by orders.order (plain key.now) (replay self.now).docs }
+        ensures doc { option_map (λ d. plain d.now) result.doc
+            ≡ find_by orders.order (plain key.now) (replay self.now).docs }
     {
         Seen {
             place: self.history.len() as u64,
@@ -83,7 +84,8 @@ impl PlainTable {
     /// Runs a command, which is then the last entry of the history. Refused for want of memory, nothing has changed.
     pub fn write(&mut self, by: u64, order: Order) -> Result<Reply, Refused<Order>>
         ensures reply { IfOk result (λ r. r ≡ reply (replay self.old) by order) }
-        ensures history { self.new ≡ (if is_ok result then self.old ++ record { by = by; order = order } ∷ [] else self.old) }
+        ensures history { self.new ≡ (if is_ok result then self.old
+            ++ record { by = by; order = order } ∷ [] else self.old) }
         ensures back { IfErr result (λ refused. refused.back ≡ order) }
     {
         let Cmd::Write(cmd) = &order.cmd;
@@ -100,7 +102,8 @@ impl PlainTable {
     fn count_error(&mut self, by: u64, order: Order, why: Name) -> Result<Reply, Refused<Order>>
         requires { verdict_of (replay self.old).docs order.cmd ≡ Errs why }
         ensures reply { IfOk result (λ r. r ≡ reply (replay self.old) by order) }
-        ensures history { self.new ≡ (if is_ok result then self.old ++ record { by = by; order = order } ∷ [] else self.old) }
+        ensures history { self.new ≡ (if is_ok result then self.old
+            ++ record { by = by; order = order } ∷ [] else self.old) }
         ensures back { IfErr result (λ refused. refused.back ≡ order) }
     {
         if let Err(failed) = self.history.push(Entry { by, order }) {
@@ -127,7 +130,8 @@ impl PlainTable {
         requires gap { IsGapBy orders.order (keys_of (replay self.old).docs) (plain key) place }
         requires within { place ≤ length (replay self.old).docs }
         ensures reply { IfOk result (λ r. r ≡ reply (replay self.old) by order) }
-        ensures history { self.new ≡ (if is_ok result then self.old ++ record { by = by; order = order } ∷ [] else self.old) }
+        ensures history { self.new ≡ (if is_ok result then self.old
+            ++ record { by = by; order = order } ∷ [] else self.old) }
         ensures back { IfErr result (λ refused. refused.back ≡ order) }
     {
         let Ok(doc) = inserted_by(&order.cmd) else {
@@ -175,14 +179,25 @@ fn inserted_by(cmd: &Cmd) -> Result<Datum, Memory>
 // Whether the row now stands in its place. If not, no row has moved.
 fn put_row(rows: &mut Vec<Row>, place: usize, row: Row) -> bool
     requires { place ≤ length rows.old.items }
-    ensures { rows.new.items ≡ (if result then insert rows.old.items place row else rows.old.items) }
+    ensures { rows.new.items ≡ (if result then insert rows.old.items place row
+        else rows.old.items) }
 {
     rows.insert(place, row).is_ok()
 }
 
 // What one insert reports: so many inserted, and the text of its error.
 fn summary(alloc: Global, inserted: u64, first_error: Option<Name>) -> Summary
-    ensures { result ≡ record { deleted = 0; errors = (if is_some first_error then 1 else 0); inserted = inserted; replaced = 0; skipped = 0; unchanged = 0; first_error = first_error; generated = []; changes = None } }
+    ensures { result ≡ record {
+      deleted = 0;
+      errors = (if is_some first_error then 1 else 0);
+      inserted = inserted;
+      replaced = 0;
+      skipped = 0;
+      unchanged = 0;
+      first_error = first_error;
+      generated = [];
+      changes = None;
+    } }
 {
     Summary {
         deleted: 0,

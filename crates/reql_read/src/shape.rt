@@ -122,7 +122,8 @@ fn ids_by<'a>(
     ids: &[Value],
     names: Option<&'a Map<String, Value>>,
 ) -> Result<(Params, Option<&'a Map<String, Value>>), ReadFault>
-    ensures { Understands ids_seen result (ids_by kind (items_view ids.now) (optional names.entry)) }
+    ensures { Understands ids_seen result (ids_by kind (items_view ids.now)
+        (optional names.entry)) }
 {
     match kind {
         Kind::Array => Ok((ids_among(alloc, ids)?, names)),

@@ -71,7 +71,9 @@ pub(crate) fn with_parts(
     new_args: Option<Terms>,
     new_opts: Option<TermFields>,
 ) -> Result<Option<Term>, Memory>
-    ensures { IfOk result (λ o. form_or (operation op (forms_of args.now) (named_of opts.now)) o ≡ operation op (forms_of (unwrap_or new_args args.now)) (named_of (unwrap_or new_opts opts.now))) }
+    ensures { IfOk result (λ o. form_or (operation op (forms_of args.now) (named_of opts.now)) o
+        ≡ operation op (forms_of (unwrap_or new_args args.now))
+        (named_of (unwrap_or new_opts opts.now))) }
 {
     if new_args.is_none() && new_opts.is_none() {
         return Ok(None);

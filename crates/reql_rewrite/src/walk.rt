@@ -27,7 +27,8 @@ pub fn rewrite<R: Rule>(alloc: Global, rule: &R, term: &Term) -> Result<Term, Fa
 // The term by the rule, None where it is the same.
 #[cycle(rewrite)]
 fn changed<R: Rule>(alloc: Global, rule: &R, term: &Term) -> Result<Option<Term>, Fault>
-    ensures { Gives (form_or (form_of term.now)) result (rewritten (R.rule rule.now) (form_of term.now)) }
+    ensures { Gives (form_or (form_of term.now)) result
+        (rewritten (R.rule rule.now) (form_of term.now)) }
 {
     if let Some(other) = rule.instead(alloc, term)? {
         return Ok(Some(other));
@@ -57,7 +58,8 @@ fn changed<R: Rule>(alloc: Global, rule: &R, term: &Term) -> Result<Option<Term>
 #[cycle(rewrite)]
 #[tactic(auto, using(crate::proofs::Steps::steps, reql_datum::proofs::Walks::walks))]
 fn changed_all<R: Rule>(alloc: Global, rule: &R, terms: &Terms) -> Result<Option<Terms>, Fault>
-    ensures { Gives (λ done. unwrap_or done terms.now) result (all_rewritten (R.rule rule.now) (forms_of terms.now)) }
+    ensures { Gives (λ done. unwrap_or done terms.now) result
+        (all_rewritten (R.rule rule.now) (forms_of terms.now)) }
 {
     let mut done = None;
     let mut place = 0;
@@ -77,7 +79,8 @@ fn changed_named<R: Rule>(
     rule: &R,
     fields: &TermFields,
 ) -> Result<Option<TermFields>, Fault>
-    ensures { Gives (λ done. unwrap_or done fields.now) result (named_rewritten (R.rule rule.now) (named_of fields.now)) }
+    ensures { Gives (λ done. unwrap_or done fields.now) result
+        (named_rewritten (R.rule rule.now) (named_of fields.now)) }
 {
     let mut done = None;
     let mut place = 0;

@@ -30,10 +30,14 @@ pub trait Engine {
     /// It records no command where the history has 2^64 - 1 entries.
     fn apply(&mut self, by: u64, cmd: Self::Cmd) -> Result<Self::Reply, Refused<Self::Cmd>>
         ensures reply { IfOk result (λ r. r ≡ machine.reply (state self.old) by cmd) }
-        ensures recorded { IfOk result (λ r. machine.recorded r ≡ true → state self.new ≡ machine.after (state self.old) by cmd) }
-        ensures counted { IfOk result (λ r. machine.recorded r ≡ true → machine.place (state self.new) ≡ machine.place (state self.old) + 1) }
-        ensures room { IfOk result (λ r. machine.recorded r ≡ true → machine.place (state self.old) + 1 < 2 ^ 64) }
-        ensures same { IfOk result (λ r. machine.recorded r ≡ false → state self.new ≡ state self.old) }
+        ensures recorded { IfOk result (λ r. machine.recorded r ≡ true
+            → state self.new ≡ machine.after (state self.old) by cmd) }
+        ensures counted { IfOk result (λ r. machine.recorded r ≡ true
+            → machine.place (state self.new) ≡ machine.place (state self.old) + 1) }
+        ensures room { IfOk result (λ r. machine.recorded r ≡ true
+            → machine.place (state self.old) + 1 < 2 ^ 64) }
+        ensures same { IfOk result (λ r. machine.recorded r ≡ false
+            → state self.new ≡ state self.old) }
         ensures back { IfErr result (λ refused. refused.back ≡ cmd) }
         ensures refused { IfErr result (λ refused. state self.new ≡ state self.old) };
 

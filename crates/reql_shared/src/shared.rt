@@ -1,8 +1,7 @@
-ghost use Rattle.std.specs.Prelude.{All, ◌≡◌, [], map, IfOk};
-ghost use Rattle.std.specs.List.{range_with_len};
+ghost use Rattle.std.specs.Prelude.{All, ◌≡◌, [], IfOk};
 ghost use Rattle.reql_shared.specs.History.{longer, AllBelow};
 ghost use Rattle.reql_shared.specs.Machine.{replay};
-ghost use Rattle.reql_shared.specs.Sight.{unused, unused_passes, Learns};
+ghost use Rattle.reql_shared.specs.Sight.{object_of, unused_passes, Learns};
 ghost use Rattle.reql_shared.specs.Rule.{maker, Merges};
 
 use crate::engine::Engine;
@@ -51,7 +50,8 @@ impl<E: Engine + Drop> Shared<E> {
         ensures start { IfOk result (λ made. made.0.start ≡ E.state engine) }
         ensures count { IfOk result (λ made. made.0.passes ≡ passes) }
         ensures passes { IfOk result (λ made. made.1.items ≡ unused_passes made.0) }
-        ensures of_this_engine { IfOk result (λ made. All (λ pass. pass.object ≡ made.0) made.1.items) }
+        ensures of_this_engine { IfOk result (λ made. All (λ pass. pass.object ≡ made.0)
+            made.1.items) }
     {
         let (table, mut first) = open(alloc, engine, passes)?;
         let made = make_passes(alloc, &table.shared, &mut first, passes)?;
@@ -116,9 +116,12 @@ fn open<E: Engine + Drop>(
     Memory,
 >
     requires unused { E.machine.place (E.state engine) ≡ 0 }
-    ensures sized { IfOk result (λ r. (r.0.shared.table_id.words ≡ 2) × (r.0.shared.table_id.slots ≡ 1)) }
-    ensures key { IfOk result (λ r. (r.0.shared.key.passes ≡ passes) × (E.state r.0.shared.key.engine.value ≡ E.state engine)) }
-    ensures seat { IfOk result (λ r. (r.1.table_id ≡ r.0.shared.table_id) × (r.1.me ≡ (maker (E.state engine) passes 0, []))) }
+    ensures sized { IfOk result (λ r. (r.0.shared.table_id.words ≡ 2)
+        × (r.0.shared.table_id.slots ≡ 1)) }
+    ensures key { IfOk result (λ r. (r.0.shared.key.passes ≡ passes)
+        × (E.state r.0.shared.key.engine.value ≡ E.state engine)) }
+    ensures seat { IfOk result (λ r. (r.1.table_id ≡ r.0.shared.table_id)
+        × (r.1.me ≡ (maker (E.state engine) passes 0, []))) }
 {
     let origin = Origin {
         engine: Snapshot::of(&engine),
@@ -146,7 +149,8 @@ fn make_passes<E: Engine>(
     requires count { board.now.key.passes ≡ passes }
     requires table { first.old.table_id ≡ board.now.table_id }
     requires maker { first.old.me ≡ (maker (E.state board.now.key.engine.value) passes 0, []) }
-    ensures { IfOk result (λ made. made.items ≡ map (unused record { id = board.now.table_id; start = E.state board.now.key.engine.value; passes = passes }) (range_with_len 0 passes)) }
+    ensures { IfOk result (λ made. made.items
+        ≡ unused_passes (object_of board.now.table_id (E.state board.now.key.engine.value) passes)) }
 {
     let mut made = Vec::with_capacity(alloc, passes as usize).map_err(|_| Memory)?;
     for number in 0..passes {

@@ -229,7 +229,8 @@ impl Terms {
     /// The term at a place. With `rest`, a loop over the places proves itself.
     pub fn at(&self, place: usize) -> Option<&Term>
         ensures found { option_map (λ t. form_of t.now) result ≡ slice_get self.now place }
-        ensures rest { MatchOption result (drop place self.now ≡ []) (λ t. drop place self.now ≡ form_of t.now ∷ drop (place + 1) self.now) }
+        ensures rest { MatchOption result (drop place self.now ≡ [])
+            (λ t. drop place self.now ≡ form_of t.now ∷ drop (place + 1) self.now) }
         ensures place_fits { OnSome result (place < 2 ^ 63) }
     {
         self.seek(place)
@@ -244,7 +245,8 @@ impl Terms {
 
     /// Adds a term at the end, in place where the list isn't shared.
     pub fn push(&mut self, item: Term) -> Result<(), Refused<Term>>
-        ensures items { self.new ≡ (if is_ok result then self.old ++ form_of item ∷ [] else self.old) }
+        ensures items { self.new ≡ (if is_ok result then self.old ++ form_of item ∷ []
+            else self.old) }
         ensures back { IfErr result (λ refused. refused.back ≡ item) }
     {
         push_on(self.alloc, &mut self.held, item)
@@ -255,7 +257,8 @@ impl Terms {
     pub fn set(&mut self, place: usize, item: Term) -> Result<Term, Refused<Term>>
         requires there { place < length self.old }
         ensures replaced { IfOk result (λ old. slice_get self.old place ≡ Some (form_of old)) }
-        ensures items { self.new ≡ (if is_ok result then set self.old place (form_of item) else self.old) }
+        ensures items { self.new ≡ (if is_ok result then set self.old place (form_of item)
+            else self.old) }
         ensures back { IfErr result (λ refused. refused.back ≡ item) }
     {
         if let Err(_) = own(self.alloc, &mut self.held, 0) {
@@ -351,7 +354,8 @@ impl TermFields {
     /// Puts a term at a name, and gives the term that it replaced.
     pub fn put(&mut self, name: Name, value: Term) -> Result<Option<Term>, Refused<(Name, Term)>>
         ensures replaced { IfOk result (λ old. option_map form_of old ≡ find name self.old) }
-        ensures members { self.new ≡ (if is_ok result then put name (form_of value) self.old else self.old) }
+        ensures members { self.new ≡ (if is_ok result then put name (form_of value) self.old
+            else self.old) }
         ensures back { IfErr result (λ refused. refused.back ≡ (name, value)) }
     {
         sorted_map::put_shared(self.alloc, &mut self.held, ROOM, name, value)
@@ -360,7 +364,8 @@ impl TermFields {
     /// Removes a name with its term, and gives the term. Memory where a shared map can't be copied.
     pub fn remove(&mut self, name: &str) -> Result<Option<Term>, Memory>
         ensures removed { IfOk result (λ old. option_map form_of old ≡ find name.now self.old) }
-        ensures members { self.new ≡ (if is_ok result then without name.now self.old else self.old) }
+        ensures members { self.new ≡ (if is_ok result then without name.now self.old
+            else self.old) }
     {
         sorted_map::remove_shared(self.alloc, &mut self.held, &name)
     }
@@ -392,8 +397,10 @@ impl TermFields {
 
     /// The member at a place. With `rest`, a loop over the places proves itself.
     pub fn at(&self, place: usize) -> Option<(&Name, &Term)>
-        ensures found { option_map (λ m. (m.0.now, form_of m.1.now)) result ≡ slice_get self.now place }
-        ensures rest { MatchOption result (drop place self.now ≡ []) (λ m. drop place self.now ≡ (m.0.now, form_of m.1.now) ∷ drop (place + 1) self.now) }
+        ensures found { option_map (λ m. (m.0.now, form_of m.1.now)) result
+            ≡ slice_get self.now place }
+        ensures rest { MatchOption result (drop place self.now ≡ [])
+            (λ m. drop place self.now ≡ (m.0.now, form_of m.1.now) ∷ drop (place + 1) self.now) }
         ensures place_fits { OnSome result (place < 2 ^ 63) }
         ensures rising { AreRising self.now }
     {
@@ -401,7 +408,8 @@ impl TermFields {
     }
 
     fn seek(&self, place: usize) -> Option<(&Name, &Term)>
-        ensures found { option_map (λ m. (m.0.now, form_of m.1.now)) result ≡ slice_get self.now place }
+        ensures found { option_map (λ m. (m.0.now, form_of m.1.now)) result
+            ≡ slice_get self.now place }
         ensures place_fits { OnSome result (place < 2 ^ 63) }
         ensures rising { AreRising self.now }
     {

@@ -74,7 +74,8 @@ pub trait TableView {
 
     /// The document of a key.
     fn get(&self, key: &Datum) -> Option<&Datum>
-        ensures { option_map (λ d. plain d.now) result ≡ find_by order (plain key.now) (documents self.now) };
+        ensures { option_map (λ d. plain d.now) result
+            ≡ find_by order (plain key.now) (documents self.now) };
 
     /// All documents, rising by key.
     fn scan(&self, alloc: Global) -> Result<Items, Memory>
@@ -83,7 +84,8 @@ pub trait TableView {
 
     /// The documents of a range.
     fn between(&self, alloc: Global, range: &Range) -> Result<Items, ViewFault>
-        ensures { Views (λ items. items) result (option_map documents_in (entries_in (documents self.now) (indexes self.now) (entries self.now) range.now)) };
+        ensures { Views (λ items. items) result (option_map documents_in
+            (entries_in (documents self.now) (indexes self.now) (entries self.now) range.now)) };
 
     /// So many of the documents of a range at most, from the one at a place on, in the direction of
     /// the range. It takes no longer for those that come after.
@@ -94,19 +96,25 @@ pub trait TableView {
         from: usize,
         most: usize,
     ) -> Result<Items, ViewFault>
-        ensures { Views (λ items. items) result (option_map (λ es. take most (drop from (documents_in es))) (entries_in (documents self.now) (indexes self.now) (entries self.now) range.now)) };
+        ensures { Views (λ items. items) result (option_map
+            (λ es. take most (drop from (documents_in es)))
+            (entries_in (documents self.now) (indexes self.now) (entries self.now) range.now)) };
 
     /// How many documents a range has, one that has several entries in it counted for each.
     fn count_between(&self, range: &Range) -> Result<u64, ViewFault>
-        ensures { Views (λ n. n) result (option_map (λ es. length (documents_in es)) (entries_in (documents self.now) (indexes self.now) (entries self.now) range.now)) };
+        ensures { Views (λ n. n) result (option_map (λ es. length (documents_in es))
+            (entries_in (documents self.now) (indexes self.now) (entries self.now) range.now)) };
 
     /// The values of a range's entries, and beside them their documents.
     fn entries_between(&self, alloc: Global, range: &Range) -> Result<Entries, ViewFault>
-        ensures { Views seen_beside result (option_map beside (entries_in (documents self.now) (indexes self.now) (entries self.now) range.now)) };
+        ensures { Views seen_beside result (option_map beside
+            (entries_in (documents self.now) (indexes self.now) (entries self.now) range.now)) };
 
     /// The documents of the entries that have each of the keys, in the order of the keys.
     fn get_all(&self, alloc: Global, index: Option<&Name>, keys: &Items) -> Result<Items, ViewFault>
-        ensures { Views (λ items. items) result (option_map (all_of keys.now) (entries_of (documents self.now) (indexes self.now) (entries self.now) (option_map (λ n. n.now) index.entry))) };
+        ensures { Views (λ items. items) result (option_map (all_of keys.now)
+            (entries_of (documents self.now) (indexes self.now) (entries self.now)
+            (option_map (λ n. n.now) index.entry))) };
 
     /// The index of a name. The entries of an index that is there are in order, and each is one of a
     /// document that is there.

@@ -39,7 +39,8 @@ fn one_in(terms: &Terms) -> Option<&Term>
 }
 
 fn two_in(terms: &Terms) -> Option<(&Term, &Term)>
-    ensures { option_map (λ p. (form_of p.0.now, form_of p.1.now)) result ≡ two_in (forms_of terms.now) }
+    ensures { option_map (λ p. (form_of p.0.now, form_of p.1.now)) result
+        ≡ two_in (forms_of terms.now) }
 {
     let Some(first) = terms.at(0) else {
         return None;
@@ -68,7 +69,8 @@ fn call(term: &Term) -> Option<(u32, &Terms)>
 
 // The name that a literal is.
 fn name_in(term: Option<&Term>) -> Option<&Name>
-    ensures { option_map (λ n. n.now) result ≡ name_in (option_map (λ t. form_of t.now) term.entry) }
+    ensures { option_map (λ n. n.now) result ≡ name_in
+        (option_map (λ t. form_of t.now) term.entry) }
 {
     match term {
         Some(Term::Lit(Datum::Text(name))) if is_name(name.as_str()) => Some(name),
@@ -219,7 +221,9 @@ fn built(alloc: Global, term: &Term) -> Result<Option<BuiltQuery<'_>>, Memory>
 
 // Whether options are those of a query that has none, its wish for no answer aside.
 fn are_usual(globals: &Globals) -> bool
-    ensures { result ≡ (bytes_eq globals.now.db usual.db && (nat_eq globals.now.array_limit usual.array_limit && nat_eq globals.now.batch usual.batch)) }
+    ensures { result ≡ (bytes_eq globals.now.db usual.db &&
+        (nat_eq globals.now.array_limit usual.array_limit && nat_eq globals.now.batch
+        usual.batch)) }
 {
     globals.db.as_str() == "test" && globals.array_limit == 100_000 && globals.batch == 1_000
 }

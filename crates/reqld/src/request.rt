@@ -36,7 +36,8 @@ fn atom_at(
     place: u64,
     history_stamp: u64,
 ) -> Result<Vec<u8>, Memory>
-    ensures { IfOk result (λ b. b.items ≡ atom_body (plain document.now) (stamped (point_at place history_stamp ∷ []))) }
+    ensures { IfOk result (λ b. b.items ≡ atom_body (plain document.now)
+        (stamped (point_at place history_stamp ∷ []))) }
 {
     let point = Point {
         slot: 0,
@@ -47,7 +48,8 @@ fn atom_at(
 }
 
 fn missing_text(alloc: Global, table: &Name) -> Result<String, Memory>
-    ensures { IfOk result (λ s. string_bytes s ≡ codes "Table `test." ++ table.now ++ codes "` does not exist.") }
+    ensures { IfOk result (λ s. string_bytes s ≡ codes "Table `test." ++ table.now
+        ++ codes "` does not exist.") }
 {
     Ok(format!(in alloc; "Table `test.{}` does not exist.", table.as_str())?)
 }
@@ -87,9 +89,11 @@ fn wrote(setting: &Setting<'_>, reply: &Reply) -> Result<Vec<u8>, Memory>
 }
 
 fn insert(setting: &Setting<'_>, table: &mut PlainTable, doc: Fields) -> Result<Vec<u8>, Memory>
-    ensures answer { IfOk result (λ b. b.items ≡ wrote (reply (replay table.old) 0 (order_of doc))) }
+    ensures answer { IfOk result (λ b. b.items ≡ wrote
+        (reply (replay table.old) 0 (order_of doc))) }
     ensures history { OnOk result (table.new ≡ table.old ++ entry_of doc ∷ []) }
-    ensures refused { OnErr result ((table.new ≡ table.old) ⊎ (table.new ≡ table.old ++ entry_of doc ∷ [])) }
+    ensures refused { OnErr result ((table.new ≡ table.old)
+        ⊎ (table.new ≡ table.old ++ entry_of doc ∷ [])) }
 {
     let order = order_of(setting, doc)?;
     let reply = table.write(0, order)?;
@@ -101,9 +105,13 @@ fn answer_built(
     table: &mut PlainTable,
     query: Option<BuiltQuery<'_>>,
 ) -> Result<Vec<u8>, Memory>
-    ensures answer { (r : Request) → Means r query.entry → IfOk result (λ b. b.items ≡ answer_asked setting.now.name.now table.old r) }
-    ensures history { (r : Request) → Means r query.entry → OnOk result (table.new ≡ history_asked setting.now.name.now table.old r) }
-    ensures refused { (r : Request) → Means r query.entry → OnErr result ((table.new ≡ table.old) ⊎ (table.new ≡ history_asked setting.now.name.now table.old r)) }
+    ensures answer { (r : Request) → Means r query.entry
+        → IfOk result (λ b. b.items ≡ answer_asked setting.now.name.now table.old r) }
+    ensures history { (r : Request) → Means r query.entry
+        → OnOk result (table.new ≡ history_asked setting.now.name.now table.old r) }
+    ensures refused { (r : Request) → Means r query.entry
+        → OnErr result ((table.new ≡ table.old)
+        ⊎ (table.new ≡ history_asked setting.now.name.now table.old r)) }
 {
     match query {
         None => refusal(setting.alloc, 17, "Form is not built yet."),
@@ -129,9 +137,13 @@ fn answer_query(
     table: &mut PlainTable,
     query: &Query,
 ) -> Result<Vec<u8>, Memory>
-    ensures answer { IfOk result (λ b. b.items ≡ answer_asked setting.now.name.now table.old (request_of (asked query.now))) }
-    ensures history { OnOk result (table.new ≡ history_asked setting.now.name.now table.old (request_of (asked query.now))) }
-    ensures refused { OnErr result ((table.new ≡ table.old) ⊎ (table.new ≡ history_asked setting.now.name.now table.old (request_of (asked query.now)))) }
+    ensures answer { IfOk result (λ b. b.items ≡ answer_asked setting.now.name.now table.old
+        (request_of (asked query.now))) }
+    ensures history { OnOk result (table.new ≡ history_asked setting.now.name.now table.old
+        (request_of (asked query.now))) }
+    ensures refused { OnErr result ((table.new ≡ table.old)
+        ⊎ (table.new ≡ history_asked setting.now.name.now table.old
+        (request_of (asked query.now)))) }
 {
     let query = built_query(setting.alloc, query)?;
     answer_built(setting, table, query)
@@ -151,9 +163,12 @@ fn refused(setting: &Setting<'_>, fault: &ReadFault) -> Result<Vec<u8>, Memory>
 
 /// The body of the answer to a request's body. Want of memory leaves the table as it was, or with the request's entry.
 pub fn answer(setting: &Setting<'_>, table: &mut PlainTable, body: &[u8]) -> Result<Vec<u8>, Memory>
-    ensures answer { IfOk result (λ b. b.items ≡ answer_to setting.now.name.now table.old body.now) }
-    ensures history { OnOk result (table.new ≡ history_after setting.now.name.now table.old body.now) }
-    ensures refused { OnErr result ((table.new ≡ table.old) ⊎ (table.new ≡ history_after setting.now.name.now table.old body.now)) }
+    ensures answer { IfOk result (λ b. b.items ≡ answer_to setting.now.name.now table.old
+        body.now) }
+    ensures history { OnOk result (table.new ≡ history_after setting.now.name.now table.old
+        body.now) }
+    ensures refused { OnErr result ((table.new ≡ table.old)
+        ⊎ (table.new ≡ history_after setting.now.name.now table.old body.now)) }
 {
     match read_query(setting.alloc, body) {
         Ok(query) => answer_query(setting, table, &query),

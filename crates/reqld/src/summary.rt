@@ -55,7 +55,8 @@ fn set_list(
 }
 
 fn set_keys(alloc: Global, fields: &mut Fields, name: &str, keys: &Items) -> Result<(), Memory>
-    ensures { OnOk result (fields.new ≡ put_all (list_member name.now (any_keys keys.now)) fields.old) }
+    ensures { OnOk result (fields.new ≡ put_all (list_member name.now (any_keys keys.now))
+        fields.old) }
 {
     if keys.len() == 0 {
         return Ok(());

@@ -77,7 +77,8 @@ fn table_of(words: &[String]) -> Command<'_>
 
 // A command after which no word may stand.
 fn ended<'a>(command: Command<'a>, rest: &'a [String]) -> Command<'a>
-    ensures { (a : Asks) → Says a command.entry → Says (ends_in a (map string_bytes rest.now)) result }
+    ensures { (a : Asks) → Says a command.entry → Says (ends_in a (map string_bytes rest.now))
+        result }
 {
     match rest.first() {
         None => command,

@@ -1,5 +1,5 @@
 -- A table in plain lists, as it is read.
-use Rattle.std.specs.Prelude.{ℕ, List, [], ◌∷◌, map, Bool, true, false, ◌&&◌, Option, Some, None}
+use Rattle.std.specs.Prelude.{ℕ, List, [], ◌∷◌, map, Bool, true, false, ◌&&◌, if◌then◌else◌, Option, Some, None}
 use Rattle.std.specs.Map.{keys_of}
 use Rattle.std.specs.Ordering.{is_lt, is_eq}
 use Rattle.std.specs.declared.cmp.Ordering.{Ordering}
@@ -69,6 +69,10 @@ fit documents (m ∷ ms) = (rise entry_order m.1.1 && are_there documents m.1.1)
 
 abbrev pub are_lists : Lists → Bool
 are_lists v = rise order (keys_of v.0) && (rise text_order (keys_of v.1) && fit v.0 v.1)
+
+-- both lists, where they are such
+abbrev pub lists_of : List Document → List (List ℕ × Filed) → Option Lists
+lists_of ds ms = if are_lists (ds, ms) then Some (ds, ms) else None
 
 -- whether an entry lies in a range
 abbrev pub is_within : Range → Entry → Bool

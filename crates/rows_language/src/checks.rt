@@ -32,7 +32,8 @@ pub(crate) fn documents_rise(documents: &[ListedDocument]) -> bool
 }
 
 fn is_name_before(first: &ListedIndex, rest: &[ListedIndex]) -> bool
-    ensures { result ≡ is_before text_order first.now.def.name (keys_of (map named_index rest.now)) }
+    ensures { result ≡ is_before text_order first.now.def.name
+        (keys_of (map named_index rest.now)) }
 {
     match rest.first() {
         Some(next) => first.def.name.order(next.def.name.as_str()).is_lt(),
@@ -71,7 +72,8 @@ fn entries_rise(entries: &[ListedEntry]) -> bool
 }
 
 fn is_there(documents: &[ListedDocument], entry: &ListedEntry) -> bool
-    ensures { result ≡ is_same (find_by order (plain entry.now.of.key) (map document_of documents.now)) (plain entry.now.of.document) }
+    ensures { result ≡ is_same (find_by order (plain entry.now.of.key)
+        (map document_of documents.now)) (plain entry.now.of.document) }
 {
     match found(documents, &entry.of.key) {
         Some(document) => compare(document, &entry.of.document).is_eq(),
@@ -89,7 +91,8 @@ fn entries_there(documents: &[ListedDocument], entries: &[ListedEntry]) -> bool
 }
 
 fn index_fits(documents: &[ListedDocument], index: &ListedIndex) -> bool
-    ensures { result ≡ (rise entry_order (map entry_of index.now.entries.items) && are_there (map document_of documents.now) (map entry_of index.now.entries.items)) }
+    ensures { result ≡ (rise entry_order (map entry_of index.now.entries.items) && are_there
+        (map document_of documents.now) (map entry_of index.now.entries.items)) }
 {
     entries_rise(&index.entries) && entries_there(documents, &index.entries)
 }

@@ -5,7 +5,7 @@ ghost use Rattle.reql_datum.specs.Members.{find, AreRising};
 ghost use Rattle.reql_datum.specs.Order.{order};
 ghost use Rattle.reql_datum.specs.View.{plain};
 ghost use Rattle.reql_term.specs.Views.{Views, entries_of, entries_in};
-ghost use Rattle.rows_language.specs.Listed.{Lists, document_of, entry_of, filed, named_index, indexes_of, entries_at, are_lists};
+ghost use Rattle.rows_language.specs.Listed.{Lists, document_of, entry_of, filed, named_index, indexes_of, entries_at, are_lists, lists_of};
 
 use crate::checks::{documents_rise, indexes_fit, names_rise};
 use crate::walks::{
@@ -71,7 +71,8 @@ impl ListedTable {
         documents: Vec<ListedDocument>,
         indexes: Vec<ListedIndex>,
     ) -> Option<ListedTable>
-        ensures { result ≡ (if are_lists (map document_of documents.items, map named_index indexes.items) then Some (map document_of documents.items, map named_index indexes.items) else None) }
+        ensures { result ≡ lists_of (map document_of documents.items)
+            (map named_index indexes.items) }
     {
         if documents_rise(&documents) && names_rise(&indexes) && indexes_fit(&documents, &indexes) {
             return Some(ListedTable {
@@ -113,7 +114,9 @@ impl ListedTable {
     // The entries of an index, or of the primary order.
     #[tactic(auto, using(crate::proofs::Ordered::entries_missing, crate::proofs::Ordered::entries_there))]
     fn list_of(&self, index: Option<&Name>) -> Result<Vec<ListedEntry>, ViewFault>
-        ensures { Views (λ es. map entry_of es.items) result (entries_of self.now.0 (indexes_of self.now) (entries_at self.now) (option_map (λ n. n.now) index.entry)) }
+        ensures { Views (λ es. map entry_of es.items) result
+            (entries_of self.now.0 (indexes_of self.now) (entries_at self.now)
+            (option_map (λ n. n.now) index.entry)) }
     {
         match index {
             None => Ok(primary(self.alloc, self.documents())?),
@@ -126,7 +129,8 @@ impl ListedTable {
 
     // The entries of a range.
     fn ranged(&self, range: &Range) -> Result<Vec<ListedEntry>, ViewFault>
-        ensures { Views (λ es. map entry_of es.items) result (entries_in self.now.0 (indexes_of self.now) (entries_at self.now) range.now) }
+        ensures { Views (λ es. map entry_of es.items) result
+            (entries_in self.now.0 (indexes_of self.now) (entries_at self.now) range.now) }
     {
         let all = self.list_of(range.index.as_ref())?;
         let kept = within(self.alloc, &all, range)?;

@@ -18,7 +18,8 @@ use std::alloc::Global;
 
 /// The document of a key.
 pub(crate) fn found<'a>(documents: &'a [ListedDocument], key: &Datum) -> Option<&'a Datum>
-    ensures { option_map (λ d. plain d.now) result ≡ find_by order (plain key.now) (map document_of documents.now) }
+    ensures { option_map (λ d. plain d.now) result
+        ≡ find_by order (plain key.now) (map document_of documents.now) }
 {
     for document in documents {
         if compare(key, &document.key).is_eq() {
@@ -30,7 +31,8 @@ pub(crate) fn found<'a>(documents: &'a [ListedDocument], key: &Datum) -> Option<
 
 /// The index of a name.
 pub(crate) fn filed_in<'a>(indexes: &'a [ListedIndex], name: &str) -> Option<&'a ListedIndex>
-    ensures { option_map (λ i. filed i.now) result ≡ find name.now (map named_index indexes.now) }
+    ensures { option_map (λ i. filed i.now) result
+        ≡ find name.now (map named_index indexes.now) }
 {
     for index in indexes {
         if name.cmp(index.def.name.as_str()).is_eq() {
@@ -59,7 +61,8 @@ fn entry_copy(entry: &ListedEntry) -> Result<ListedEntry, Memory>
 }
 
 fn primary_entry(document: &ListedDocument) -> Result<ListedEntry, Memory>
-    ensures { IfOk result (λ e. entry_of e ≡ ((document_of document.now).0, document_of document.now)) }
+    ensures { IfOk result (λ e. entry_of e
+        ≡ ((document_of document.now).0, document_of document.now)) }
 {
     Ok(ListedEntry {
         value: document.key.copy()?,
@@ -72,7 +75,8 @@ pub(crate) fn primary(
     alloc: Global,
     documents: &[ListedDocument],
 ) -> Result<Vec<ListedEntry>, Memory>
-    ensures { IfOk result (λ es. map entry_of es.items ≡ views.primary (map document_of documents.now)) }
+    ensures { IfOk result (λ es. map entry_of es.items
+        ≡ views.primary (map document_of documents.now)) }
 {
     let mut entries = Vec::new(alloc);
     for document in documents {
@@ -118,7 +122,8 @@ pub(crate) fn within(
     entries: &[ListedEntry],
     range: &Range,
 ) -> Result<Vec<ListedEntry>, Memory>
-    ensures { IfOk result (λ es. map entry_of es.items ≡ filter (is_within range.now) (map entry_of entries.now)) }
+    ensures { IfOk result (λ es. map entry_of es.items
+        ≡ filter (is_within range.now) (map entry_of entries.now)) }
 {
     let mut kept = Vec::new(alloc);
     for entry in entries {
@@ -183,7 +188,9 @@ pub(crate) fn values_in(alloc: Global, entries: &[ListedEntry]) -> Result<Items,
 
 // Adds the documents of the entries that have a key.
 fn add_of(documents: &mut Items, key: &Datum, entries: &[ListedEntry]) -> Result<(), Memory>
-    ensures { IfOk result (λ _. documents.new ≡ documents.old ++ views.documents_in (filter (λ e. is_eq (order (plain key.now) e.0)) (map entry_of entries.now))) }
+    ensures { IfOk result (λ _. documents.new ≡ documents.old
+        ++ views.documents_in (filter (λ e. is_eq (order (plain key.now) e.0))
+        (map entry_of entries.now))) }
 {
     for entry in entries {
         if compare(key, &entry.value).is_eq() {

@@ -27,7 +27,8 @@ pub fn add_by_two<R: Threads + Wait + Sync>(
     numbers: (u64, u64),
     times: u32,
 ) -> Result<(Final<Adder>, Pass<Adder>, Pass<Adder>), Memory>
-    ensures state { IfOk result (λ r. (r.0.engine.sum, r.0.engine.count) ≡ replay adding (0, 0) r.0.history) }
+    ensures state { IfOk result (λ r. (r.0.engine.sum, r.0.engine.count)
+        ≡ replay adding (0, 0) r.0.history) }
     ensures seen { IfOk result (λ r. (r.1.seen ≡ r.0.history) × (r.2.seen ≡ r.0.history)) }
 {
     let (shared, mut passes) = Shared::new(alloc, Adder { sum: 0, count: 0 }, 2)?;

@@ -26,7 +26,8 @@ fn next_pair(
 ) -> Option<Worker>
     requires { All (λ p. p.object ≡ shared.now) passes.old.items }
     ensures rest { All (λ p. p.object ≡ shared.now) passes.new.items }
-    ensures pair { IfSome result (λ w. (w.first.object ≡ shared.now) × (w.second.object ≡ shared.now)) }
+    ensures pair { IfSome result (λ w. (w.first.object ≡ shared.now)
+        × (w.second.object ≡ shared.now)) }
 {
     let second = passes.pop()?;
     let first = passes.pop()?;
@@ -45,7 +46,8 @@ fn pair_up(
     workers: u32,
 ) -> Result<Vec<Worker>, Memory>
     requires { All (λ p. p.object ≡ shared.now) passes.items }
-    ensures { IfOk result (λ made. All (λ w. (w.first.object ≡ shared.now) × (w.second.object ≡ shared.now)) made.items) }
+    ensures { IfOk result (λ made. All (λ w. (w.first.object ≡ shared.now)
+        × (w.second.object ≡ shared.now)) made.items) }
 {
     let mut made = Vec::with_capacity(alloc, workers as usize).map_err(|_| Memory)?;
     for _ in 0..workers {
@@ -88,8 +90,10 @@ fn call_all<R: Threads + Wait + Sync>(
     workers: &mut [Worker],
     rounds: u32,
 )
-    requires { All (λ w. (w.first.object ≡ shared.now) × (w.second.object ≡ shared.now)) workers.old }
-    ensures { All (λ w. (w.first.object ≡ shared.now) × (w.second.object ≡ shared.now)) workers.new }
+    requires { All (λ w. (w.first.object ≡ shared.now) × (w.second.object ≡ shared.now))
+        workers.old }
+    ensures { All (λ w. (w.first.object ≡ shared.now) × (w.second.object ≡ shared.now))
+        workers.new }
 {
     let threads = workers.len().max(1);
     thread::for_each_mut(
@@ -102,7 +106,8 @@ fn call_all<R: Threads + Wait + Sync>(
 
 // Shows each pass the whole history.
 fn check_all(last: &mut Final<Callers>, workers: &mut [Worker])
-    requires { All (λ w. (w.first.object ≡ last.old.object) × (w.second.object ≡ last.old.object)) workers.old }
+    requires { All (λ w. (w.first.object ≡ last.old.object) × (w.second.object ≡ last.old.object))
+        workers.old }
     ensures same { last.new ≡ last.old }
 {
     for k in 0..workers.len() {
