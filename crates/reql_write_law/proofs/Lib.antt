@@ -1,0 +1,3 @@
+pub mod Treated
+pub mod Counted
+pub mod Worked
