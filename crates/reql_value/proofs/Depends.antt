@@ -277,8 +277,11 @@ module _ (P : ℕ → Type 0) (w v : World) (agree : Agree P w v) where
     default_to_alike : (s : Sense) → Alike s → (a : Answer Meant) → Each (In P) a → (default_to s w us a ≡ default_to s v vs a) × Each (In P) (default_to s w us a)
     default_to_alike s h (Ok m) p = sized_tail (unless_nothing s) (unless_alike s h) m p
     default_to_alike s h (Err (non_existence why)) p =
-        let x = told_alike s h (text why) in
-        ((λ i. or_caught (Err (non_existence why)) (x.0 i)), caught_in (Err (non_existence why)) (told s w us (text why)) tt x.1)
+        let x = told_alike s h (text why) in (
+          (λ i. or_caught (Err (non_existence why)) (x.0 i) >>= sized (agree.limit i)),
+          then_each_if (In P) (In P) (or_caught (Err (non_existence why)) (told s w us (text why))) (sized w.array_limit)
+              (caught_in (Err (non_existence why)) (told s w us (text why)) tt x.1) (λ m q. sized_in w.array_limit m q),
+        )
     default_to_alike s h (Err (query_logic e)) p = (refl, tt)
     default_to_alike s h (Err (resource_limit e)) p = (refl, tt)
     default_to_alike s h (Err (op_failed e)) p = (refl, tt)

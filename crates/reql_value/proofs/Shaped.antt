@@ -26,7 +26,7 @@ use Rattle.reql_value.specs.Shapes.{answered, IsByDocument, is_stage, is_part, N
 use Rattle.reql_bag.specs.Bag.{times}
 use Rattle.reql_value.specs.Stages.{Stage, staged_by, refusing, by_answer, mapping, StageBy, map_stage, filter_stage, pattern_stage, merge_stage, having_stage, with_fields_stage, IsStage}
 use Rattle.reql_value.specs.Table.{rule_of}
-use Rattle.reql_value.specs.Tables.{get_all_rule, between_rule, key_if, is_bound, index_or_key}
+use Rattle.reql_value.specs.Tables.{get_all_rule, between_rule, key_if, may_bound, index_or_key}
 use Rattle.reql_value.specs.Wanted.{as_data, as_datum, text_option, left_is_open, right_is_open, to_sequence}
 use Rattle.reql_value.specs.World.{World, View, view_at, documents_of, entries_named}
 use Rattle.reql_value.proofs.Depends.{AllAlike, arguments_alike, options_alike, calls_alike, option_alike, default_option_alike, argument_alike, all_alike, fields_alike, nothing_bound}
@@ -175,15 +175,15 @@ module _ (base : World) (n : ℕ) (t : View) where
     slice_of docs i bottom lo top ho = entries_named (with_documents t docs) (unwrap_or i t.key) >>= λ es. Ok (selection k (slice_between (between_bounds t i bottom lo top ho)) (documents_in (bounded (between_bounds t i bottom lo top ho) es)))
 
     abbrev between_by : Given → Given → Options → View → Answer Meant
-    between_by l u opts v = as_datum l >>= λ d. as_datum u >>= λ e. key_if is_bound d >>= λ bottom. key_if is_bound e >>= λ top. text_option (codes "index") opts >>= λ i. left_is_open opts >>= λ lo. right_is_open opts >>= λ ho.
+    between_by l u opts v = as_datum l >>= λ d. as_datum u >>= λ e. key_if may_bound d >>= λ bottom. key_if may_bound e >>= λ top. text_option (codes "index") opts >>= λ i. left_is_open opts >>= λ lo. right_is_open opts >>= λ ho.
         entries_named v (index_or_key v i) >>= λ es. Ok (selection k (slice_between (between_bounds v i bottom lo top ho)) (documents_in (bounded (between_bounds v i bottom lo top ho) es)))
 
     between_course : (l u : Given) (opts : Options) → Sized (λ docs. between_by l u opts (with_documents t docs))
     between_course l u opts =
-        then_sized (as_datum l) (λ d docs. as_datum u >>= λ e. key_if is_bound d >>= λ bottom. key_if is_bound e >>= λ top. text_option (codes "index") opts >>= λ i. left_is_open opts >>= λ lo. right_is_open opts >>= λ ho. slice_of docs i bottom lo top ho) (λ d.
-        then_sized (as_datum u) (λ e docs. key_if is_bound d >>= λ bottom. key_if is_bound e >>= λ top. text_option (codes "index") opts >>= λ i. left_is_open opts >>= λ lo. right_is_open opts >>= λ ho. slice_of docs i bottom lo top ho) (λ e.
-        then_sized (key_if is_bound d) (λ bottom docs. key_if is_bound e >>= λ top. text_option (codes "index") opts >>= λ i. left_is_open opts >>= λ lo. right_is_open opts >>= λ ho. slice_of docs i bottom lo top ho) (λ bottom.
-        then_sized (key_if is_bound e) (λ top docs. text_option (codes "index") opts >>= λ i. left_is_open opts >>= λ lo. right_is_open opts >>= λ ho. slice_of docs i bottom lo top ho) (λ top.
+        then_sized (as_datum l) (λ d docs. as_datum u >>= λ e. key_if may_bound d >>= λ bottom. key_if may_bound e >>= λ top. text_option (codes "index") opts >>= λ i. left_is_open opts >>= λ lo. right_is_open opts >>= λ ho. slice_of docs i bottom lo top ho) (λ d.
+        then_sized (as_datum u) (λ e docs. key_if may_bound d >>= λ bottom. key_if may_bound e >>= λ top. text_option (codes "index") opts >>= λ i. left_is_open opts >>= λ lo. right_is_open opts >>= λ ho. slice_of docs i bottom lo top ho) (λ e.
+        then_sized (key_if may_bound d) (λ bottom docs. key_if may_bound e >>= λ top. text_option (codes "index") opts >>= λ i. left_is_open opts >>= λ lo. right_is_open opts >>= λ ho. slice_of docs i bottom lo top ho) (λ bottom.
+        then_sized (key_if may_bound e) (λ top docs. text_option (codes "index") opts >>= λ i. left_is_open opts >>= λ lo. right_is_open opts >>= λ ho. slice_of docs i bottom lo top ho) (λ top.
         then_sized (text_option (codes "index") opts) (λ i docs. left_is_open opts >>= λ lo. right_is_open opts >>= λ ho. slice_of docs i bottom lo top ho) (λ i.
         then_sized (left_is_open opts) (λ lo docs. right_is_open opts >>= λ ho. slice_of docs i bottom lo top ho) (λ lo.
         then_sized (right_is_open opts) (λ ho docs. slice_of docs i bottom lo top ho) (λ ho.

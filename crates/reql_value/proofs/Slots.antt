@@ -38,7 +38,7 @@ use Rattle.reql_value.specs.Sequences.{reduce_rule, map_rule, concat_map, filter
 use Rattle.reql_value.specs.Orders.{bounded_source, index_source, table_source, index_given, order_by_keys, order_by_index, order_in, order_by, distinct_in, distinct_rule, entry_keyed, is_down, key_at}
 use Rattle.reql_value.specs.Groups.{group_in, group_rule, ungroup_rule, total_rule}
 use Rattle.reql_value.specs.Joins.{join_rule, eq_join, zip_rule}
-use Rattle.reql_value.specs.Tables.{get_rule, get_all_rule, between_rule, index_list, index_statuses, named_database, db_rule, told, info_of, config_of, status_rule, key_if, index_or_key, is_bound}
+use Rattle.reql_value.specs.Tables.{get_rule, get_all_rule, between_rule, index_list_rule, index_statuses, named_database, db_rule, told, info_of, config_of, status_rule, key_if, index_or_key, may_bound}
 use Rattle.reql_value.specs.Table.{rule_of}
 use Rattle.reql_value.specs.Depends.{Agree}
 
@@ -470,14 +470,14 @@ module _ (P : ℕ → Type 0) (w v : World) (agree : Agree P w v) where
 
   between_in : KeepsRule between_rule
   between_in calls (t ∷ l ∷ u ∷ []) opts k h = then_each_if (λ x. P x.0) (In P) (as_table w t) _ (table_in (meant_of t) (meant_in t h.0))
-      (λ x p. then_each (In P) (as_datum l) _ (λ d. then_each (In P) (as_datum u) _ (λ e. then_each (In P) (key_if is_bound d) _ (λ bottom. then_each (In P) (key_if is_bound e) _ (λ top.
+      (λ x p. then_each (In P) (as_datum l) _ (λ d. then_each (In P) (as_datum u) _ (λ e. then_each (In P) (key_if may_bound d) _ (λ bottom. then_each (In P) (key_if may_bound e) _ (λ top.
       then_each (In P) (text_option (codes "index") opts) _ (λ i. then_each (In P) (left_is_open opts) _ (λ lo. then_each (In P) (right_is_open opts) _ (λ ho. then_each (In P) (entries_named x.1 (index_or_key x.1 i)) _ (λ es. p)))))))))
   between_in calls [] opts k h = tt
   between_in calls (t ∷ []) opts k h = tt
   between_in calls (t ∷ l ∷ []) opts k h = tt
   between_in calls (t ∷ l ∷ u ∷ g ∷ gs) opts k h = tt
 
-  index_list_same : SameRule index_list
+  index_list_same : SameRule index_list_rule
   index_list_same calls (t ∷ []) opts k h = first_same _ _ _ (given_table_same t h.0)
   index_list_same calls gs opts k h = refl
 
@@ -550,7 +550,7 @@ module _ (P : ℕ → Type 0) (w v : World) (agree : Agree P w v) where
   rule_same op.Get = get_same
   rule_same op.GetAll = get_all_same
   rule_same op.Between = between_same
-  rule_same op.IndexList = giving_same (λ ds. one (array_of ds)) index_list index_list_same
+  rule_same op.IndexList = giving_same (λ ds. one (array_of ds)) index_list_rule index_list_same
   rule_same op.IndexStatus = giving_same (λ ds. one (array_of ds)) index_statuses index_statuses_same
   rule_same op.IndexWait = giving_same (λ ds. one (array_of ds)) index_statuses index_statuses_same
   rule_same op.Info = giving_same one (told info_of) (told_same info_of info_same)
@@ -630,7 +630,7 @@ module _ (P : ℕ → Type 0) (w v : World) (agree : Agree P w v) where
   rule_in op.Get = get_in
   rule_in op.GetAll = get_all_in
   rule_in op.Between = between_in
-  rule_in op.IndexList = giving_in (λ ds. one (array_of ds)) index_list (λ x. tt)
+  rule_in op.IndexList = giving_in (λ ds. one (array_of ds)) index_list_rule (λ x. tt)
   rule_in op.IndexStatus = giving_in (λ ds. one (array_of ds)) index_statuses (λ x. tt)
   rule_in op.IndexWait = giving_in (λ ds. one (array_of ds)) index_statuses (λ x. tt)
   rule_in op.Info = giving_in one (told info_of) (λ x. tt)

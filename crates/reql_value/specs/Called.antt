@@ -8,7 +8,7 @@ use Rattle.reql_rules.specs.Types.{truth, same, text_in, object_in}
 use Rattle.reql_rules.specs.Lists.{Bytes, array_of}
 use Rattle.reql_rules.specs.Matching.{matches}
 use Rattle.reql_value.specs.World.{World}
-use Rattle.reql_value.specs.Meant.{Meant, Given, callee, directed, Calls, meant_of}
+use Rattle.reql_value.specs.Meant.{Meant, Given, callee, Calls, meant_of}
 use Rattle.reql_value.specs.Wanted.{to_datum, to_sequence, value_in}
 
 abbrev pub answer : Calls → Given → List Plain → Answer Meant
@@ -40,10 +40,9 @@ field_or_constant (Some name) m d = get_field name d
 abbrev pub constant_key : Meant → Plain → Answer Plain
 constant_key m d = field_or_constant (option_and_then text_in (value_in m)) m d
 
--- a function is called; a key under ASC or DESC gives the fault that `answer_one` has for it, for ORDER_BY takes the direction off first
+-- a function is called
 abbrev pub answer_key : Calls → Given → Plain → Answer Plain
 answer_key calls (callee at) d = answer_one calls (callee at) d
-answer_key calls (directed down g) d = answer_one calls (directed down g) d
 answer_key calls g d = constant_key (meant_of g) d
 
 -- equal to a constant, or a function is true on it

@@ -134,6 +134,7 @@ limited =
     (call op.Map (slot 0 ∷ fun (num 1) ∷ []), Ok (stream (n 1 ∷ n 1 ∷ n 1 ∷ n 1 ∷ []))) ∷
     (call op.GetField (call op.Get (slot 0 ∷ num 1 ∷ []) ∷ name "tags" ∷ []), Err (resource_limit (codes "Array over size limit `2`."))) ∷
     (call op.Bracket (call op.Get (slot 0 ∷ num 1 ∷ []) ∷ name "tags" ∷ []), Err (resource_limit (codes "Array over size limit `2`."))) ∷
+    (call op.Default (call op.GetField (members [] ∷ name "x" ∷ []) ∷ literal (a (n 1 ∷ n 2 ∷ n 3 ∷ [])) ∷ []), Err (resource_limit (codes "Array over size limit `2`."))) ∷
     (array (array (num 1 ∷ num 2 ∷ []) ∷ array (literal (a (n 1 ∷ n 2 ∷ n 3 ∷ [])) ∷ []) ∷ []), Ok (one (a (a (n 1 ∷ n 2 ∷ []) ∷ a (a (n 1 ∷ n 2 ∷ n 3 ∷ []) ∷ []) ∷ [])))) ∷
     []
 

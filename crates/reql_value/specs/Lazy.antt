@@ -66,7 +66,7 @@ unless_nothing s w vars m = if is_nothing m then or_caught (Ok (one null)) (told
 
 abbrev pub default_to : Sense → World → Vars → Answer Meant → Answer Meant
 default_to s w vars (Ok m) = on_groups (λ n. unless_nothing s w vars n >>= sized w.array_limit) m
-default_to s w vars (Err (non_existence why)) = or_caught (Err (non_existence why)) (told s w vars (text why))
+default_to s w vars (Err (non_existence why)) = or_caught (Err (non_existence why)) (told s w vars (text why)) >>= sized w.array_limit
 default_to s w vars (Err e) = Err e
 
 abbrev pub default : List Sense → World → Vars → Answer Meant

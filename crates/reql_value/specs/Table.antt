@@ -20,7 +20,7 @@ use Rattle.reql_value.specs.Sequences.{reduce_rule, map_rule, concat_map, filter
 use Rattle.reql_value.specs.Orders.{order_by, distinct_rule}
 use Rattle.reql_value.specs.Groups.{group_rule, ungroup_rule, total_rule}
 use Rattle.reql_value.specs.Joins.{join_rule, eq_join, zip_rule}
-use Rattle.reql_value.specs.Tables.{get_rule, get_all_rule, between_rule, index_list, index_statuses, db_rule, told, info_of, config_of, status_rule}
+use Rattle.reql_value.specs.Tables.{get_rule, get_all_rule, between_rule, index_list_rule, index_statuses, db_rule, told, info_of, config_of, status_rule}
 
 -- terms that are no values, or that have a form of their own
 abbrev pub no_rule : Rule
@@ -123,7 +123,7 @@ rule_of op.TableList = no_rule
 rule_of op.IndexCreate = no_rule
 rule_of op.IndexDrop = no_rule
 rule_of op.IndexRename = no_rule
-rule_of op.IndexList = array index_list
+rule_of op.IndexList = array index_list_rule
 rule_of op.IndexStatus = array index_statuses
 rule_of op.IndexWait = array index_statuses
 rule_of op.Info = datum (told info_of)

@@ -43,16 +43,16 @@ get_all_rule w calls (t ∷ ks) opts = do
   Ok (selection v.0 some_rows (all_of keys es))
 get_all_rule w calls [] opts = Err misplaced
 
-abbrev pub is_bound : Plain → Bool
-is_bound d = not (is_null d)
+abbrev pub may_bound : Plain → Bool
+may_bound d = not (is_null d)
 
 abbrev pub between_rule : Rule
 between_rule w calls (t ∷ l ∷ h ∷ []) opts = do
   v ← as_table w t
   d ← as_datum l
   e ← as_datum h
-  low ← key_if is_bound d
-  high ← key_if is_bound e
+  low ← key_if may_bound d
+  high ← key_if may_bound e
   i ← text_option (codes "index") opts
   low_open ← left_is_open opts
   high_open ← right_is_open opts
@@ -66,11 +66,11 @@ between_rule w calls gs opts = Err misplaced
 abbrev pub index_names : View → List Bytes
 index_names v = map (λ i. i.0) v.indexes
 
-abbrev pub index_list : Gives (List Plain)
-index_list w calls (t ∷ []) opts = do
+abbrev pub index_list_rule : Gives (List Plain)
+index_list_rule w calls (t ∷ []) opts = do
   v ← as_table w t
   Ok (map text (index_names v.1))
-index_list w calls gs opts = Err misplaced
+index_list_rule w calls gs opts = Err misplaced
 
 abbrev pub status_of : Bytes → Option Index → Answer Plain
 status_of name None = Err (no_index name)

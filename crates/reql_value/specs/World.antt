@@ -3,11 +3,10 @@ use Rattle.std.specs.Prelude.{ℕ, nat_eq, length, List, [], ◌∷◌, map, if�
 use Rattle.std.specs.List.{zip}
 use Rattle.reql_datum.specs.Answer.{Answer}
 use Rattle.reql_datum.specs.Plain.{Plain}
-use Rattle.reql_term.specs.Views.{Document, Entry, Index}
+use Rattle.reql_term.specs.Views.{Document, Entry, Index, entries_of}
 use Rattle.reql_rules.specs.Faults.{misplaced, wrong_count, no_index}
 use Rattle.reql_rules.specs.Types.{same_text}
 use Rattle.reql_rules.specs.Lists.{Bytes}
-use Rattle.reql_term.specs.Views.{entries_of}
 
 -- a table as it is read, with the names that it goes by
 pub record View : Type 0 where
