@@ -1,0 +1,9 @@
+pub mod Items
+pub mod Tracking
+pub mod Reach
+pub mod Holding
+pub mod Folding
+pub mod Tables
+pub mod Sampled
+pub mod Numbers
+pub mod Known

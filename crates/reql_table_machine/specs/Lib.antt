@@ -1,0 +1,6 @@
+pub mod Feeding
+pub mod Feeds
+pub mod Fed
+pub mod Laws
+pub mod Sample
+pub mod Worked

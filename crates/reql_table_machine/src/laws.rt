@@ -1,0 +1,51 @@
+// The laws of a table and its feeds, for any kinds of writes and feeds.
+ghost use Rattle.reql_table_machine.specs.Feeding.{Feeding, Folds};
+ghost use Rattle.reql_table_machine.specs.Laws.{RefusedStays, DocsAtStamp, LaterDocs, FeedsFold};
+ghost use Rattle.reql_table_machine.specs.Sample.{one_number, Good, May};
+
+/// What a table's writes and feeds mean.
+pub trait Meaning {
+    type Docs;
+
+    type Indexes;
+
+    type Write;
+
+    type IndexCmd;
+
+    type Request;
+
+    type Summary;
+
+    type Change;
+
+    type Kept;
+
+    type Item;
+
+    type Value;
+
+    ghost feeding: { Feeding Self.Docs Self.Indexes Self.Write Self.IndexCmd Self.Request Self.Summary Self.Change Self.Kept Self.Item Self.Value };
+
+    ghost good: { Self.Docs → Type 0 };
+
+    ghost may: { Self.Docs → Self.Change → Type 0 };
+}
+
+/// A command that adds no entry leaves the table as it was; the documents of a table are those after
+/// all changes of its history; and the documents at a stamp stay the same when the history goes on.
+pub fn machine_laws<F: Meaning>()
+    ensures refused { RefusedStays F.feeding }
+    ensures docs { DocsAtStamp F.feeding }
+    ensures later { LaterDocs F.feeding }
+{}
+
+/// Where the laws of its kinds of feed hold, each feed that a user opened along a history folds to its query.
+pub fn feeds_fold<F: Meaning>()
+    ensures { FeedsFold F.feeding F.good F.may }
+{}
+
+/// The laws of a kind of feed can be met: the feeds of a table of one number meet them.
+pub fn sample_folds()
+    ensures { Folds one_number Good May }
+{}

@@ -1,0 +1,13 @@
+//! The machine of a table, over any kinds of writes and feeds, as definitions; and the law that a client's feeds fold to their queries.
+#![tactic(auto)]
+
+mod command;
+mod laws;
+mod rows;
+mod sample;
+
+pub use command::{Cmd, Look, Order, Reply, Said};
+pub use laws::{Meaning, feeds_fold, machine_laws, sample_folds};
+pub use reql_datum::Point;
+pub use rows::worked_rows;
+pub use sample::{Kept, OneNumber};
