@@ -1,1 +1,4 @@
 mod Joined
+pub mod Rise
+mod Runs
+mod Sorting

@@ -1,2 +1,4 @@
 pub mod Called
 pub mod Joined
+pub mod Seen
+pub mod Gathered

@@ -41,7 +41,8 @@ fn join_each<G: Fn(&Datum, &Datum) -> Result<Datum, Fault>>(
 ) -> Result<Items, Fault>
     requires { G.IsAlwaysCallable f.now }
     ensures { (m : Plain → Plain → Answer Plain) → MeansTwo G.Fn f.now m
-        → Gives (λ items. items) result (join_all outer m (map plain lefts.now) (map plain rights.now)) }
+        → Gives (λ items. items) result
+        (join_all outer m (map plain lefts.now) (map plain rights.now)) }
 {
     let sides = Sides::new(alloc)?;
     let mut pairs = Items::new(alloc);
@@ -63,7 +64,8 @@ fn joined<G: Fn(&Datum, &Datum) -> Result<Datum, Fault>>(
 ) -> Result<Items, Fault>
     requires { G.IsAlwaysCallable f.now }
     ensures { (m : Plain → Plain → Answer Plain) → MeansTwo G.Fn f.now m
-        → Gives (λ items. items) result (joined_after outer m (plain left.now) (map plain rights.now) pairs) }
+        → Gives (λ items. items) result
+        (joined_after outer m (plain left.now) (map plain rights.now) pairs) }
 {
     let before = pairs.len();
     let mut all = partnered(sides, pairs, left, rights, f)?;
@@ -84,7 +86,8 @@ fn partnered<G: Fn(&Datum, &Datum) -> Result<Datum, Fault>>(
 ) -> Result<Items, Fault>
     requires { G.IsAlwaysCallable f.now }
     ensures { (m : Plain → Plain → Answer Plain) → MeansTwo G.Fn f.now m
-        → Gives (λ items. items) result (pairs_after m (plain left.now) (map plain rights.now) pairs) }
+        → Gives (λ items. items) result
+        (pairs_after m (plain left.now) (map plain rights.now) pairs) }
 {
     let mut all = pairs;
     for right in rights {

@@ -1,7 +1,13 @@
 //! Groups and joins of documents, by functions that the caller lends.
 #![tactic(auto)]
 
+mod gathering;
+mod grouped;
 mod joining;
 mod sides;
+mod ungrouping;
 
+pub use gathering::group;
+pub use grouped::Groups;
 pub use joining::{eq_join, join};
+pub use ungrouping::ungroup;

@@ -54,7 +54,8 @@ impl Sides {
 
     /// With the objects of one left side and each of many.
     pub fn with_each(&self, pairs: Items, left: &Datum, rows: &[Datum]) -> Result<Items, Memory>
-        ensures { IfOk result (λ r. r ≡ pairs ++ map (of_both (plain left.now)) (map plain rows.now)) }
+        ensures { IfOk result (λ r. r
+            ≡ pairs ++ map (of_both (plain left.now)) (map plain rows.now)) }
     {
         let mut all = pairs;
         for right in rows {
