@@ -2,6 +2,7 @@
 #![tactic(auto)]
 
 mod building;
+mod gathering;
 mod having;
 mod merging;
 
