@@ -1,0 +1,27 @@
+-- Patterns in one form: objects whose values are objects of that form, or true for a whole field.
+use Rattle.std.specs.Prelude.{◌≡◌, List, [], ◌∷◌, Bool, true, false, ◌&&◌, ◌||◌, if◌then◌else◌}
+use Rattle.reql_datum.specs.Plain.{Plain, object, Pairs, no_pairs, pair}
+use Rattle.reql_rules.specs.Patterns.{is_true, Part, whole, inside, pluck_pairs, without_pairs}
+
+abbrev mutual
+  pub is_normal : Plain → Bool
+  is_normal (object ms) = are_normal ms
+  is_normal v = false
+
+  pub are_normal : Pairs → Bool
+  are_normal no_pairs = true
+  are_normal (pair k v ms) = (is_true v || is_normal v) && are_normal ms
+
+-- what the value of an object's member names of its field
+abbrev pub member_part : Plain → Part
+member_part v = if is_true v then whole else inside (v ∷ [])
+
+-- two lists of patterns that name the same parts of each object
+pub record Alike (ps qs : List Plain) : Type 0 where
+  pub plucked : (ms : Pairs) → pluck_pairs ms ps ≡ pluck_pairs ms qs
+  pub left : (ms : Pairs) → without_pairs ms ps ≡ without_pairs ms qs
+
+-- a pattern in the one form that names the same parts as a list of patterns
+pub record Compiles (ps : List Plain) (v : Plain) : Type 0 where
+  pub normal : is_normal v ≡ true
+  pub alike : Alike ps (v ∷ [])
