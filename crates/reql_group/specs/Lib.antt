@@ -2,3 +2,4 @@ pub mod Called
 pub mod Joined
 pub mod Seen
 pub mod Gathered
+pub mod Zipped

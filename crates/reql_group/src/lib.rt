@@ -6,8 +6,10 @@ mod grouped;
 mod joining;
 mod sides;
 mod ungrouping;
+mod zipping;
 
 pub use gathering::group;
 pub use grouped::Groups;
 pub use joining::{eq_join, join};
 pub use ungrouping::ungroup;
+pub use zipping::zip;
