@@ -2,3 +2,4 @@ mod Joined
 pub mod Rise
 mod Runs
 mod Sorting
+mod Beside

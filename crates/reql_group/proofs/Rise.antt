@@ -1,7 +1,9 @@
 -- Groups that rise.
-use Rattle.std.proofs.Common.{◌≡◌, Bool, true, false, if◌then◌else◌, List, [], ◌∷◌, ◌++◌, map, Greater}
+use Rattle.std.proofs.Common.{◌≡◌, Bool, true, false, if◌then◌else◌, List, [], ◌∷◌, ◌++◌, map, Less, Greater}
 use Rattle.std.proofs.lemmas.List.{map-append}
+use Rattle.std.specs.List.{AllByRecursion}
 use Rattle.std.specs.List.Sorted.{IsStrictlySortedBy}
+use Rattle.std.specs.Map.{keys_of}
 use Rattle.reql_datum.specs.Order.{order}
 use Rattle.reql_datum.specs.Plain.{Plain}
 use Rattle.reql_datum.specs.Total.{order_total}
@@ -41,3 +43,17 @@ below_more j k (g ∷ gs) h all =
 -- all that were there, and the group that was added, are below the next
 pub next_above : (gs : List (Plain × Plain)) (j k : Plain) (v : Plain) → AllBelowBy order j gs → order k j ≡ Greater → AllBelowBy order k (gs ++ (j, v) ∷ [])
 next_above gs j k v all h = all_joined (λ x. order k x ≡ Greater) gs ((j, v) ∷ []) (below_more j k gs h all) (h, tt)
+
+-- of keys that rise, those before one are below it
+among : (P : Plain → Type 0) (ds : List Plain) (k : Plain) (ks : List Plain) → AllByRecursion P (ds ++ k ∷ ks) → P k
+among P [] k ks all = all.0
+among P (d ∷ ds) k ks all = among P ds k ks all.1
+
+below_next : (ds : List Plain) (k : Plain) (ks : List Plain) → IsStrictlySortedBy order (ds ++ k ∷ ks) → AllByRecursion (λ x. order k x ≡ Greater) ds
+unfolding IsStrictlySortedBy
+below_next [] k ks up = tt
+below_next (d ∷ ds) k ks up = (below_flip order order_total k d (among (λ y. order d y ≡ Less) ds k ks up.0), below_next ds k ks up.1)
+
+-- where the groups of one list are made again in turn, the next is above those that are made
+pub next_again : (made : List (Plain × Plain)) (k v : Plain) (rest all : List (Plain × Plain)) → keys_of made ++ keys_of ((k, v) ∷ rest) ≡ keys_of all → AreRisingBy order all → AllBelowBy order k made
+next_again made k v rest all is up = below_next (keys_of made) k (keys_of rest) (rw is up)

@@ -3,3 +3,4 @@ pub mod Joined
 pub mod Seen
 pub mod Gathered
 pub mod Zipped
+pub mod Reduced

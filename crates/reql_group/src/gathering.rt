@@ -1,6 +1,6 @@
 // GROUP.
 ghost use Rattle.std.specs.Prelude.{◌≡◌, List, ◌∷◌, [], map, IfOk};
-ghost use Rattle.std.specs.Ordering.{is_eq};
+ghost use Rattle.std.specs.List.{zip};
 ghost use Rattle.reql_datum.specs.Answer.{Answer};
 ghost use Rattle.reql_datum.specs.Called.{Means};
 ghost use Rattle.reql_datum.specs.Order.{order};
@@ -150,4 +150,30 @@ fn is_of(pair: &Pair, run: &Run) -> bool
     ensures { result ≡ same (plain pair.now.group) (plain run.now.group) }
 {
     compare(&pair.group, &run.group).is_eq()
+}
+
+/// GROUP by the values of an index: the members by the groups that stand beside them, each at its
+/// place.
+pub fn group_beside(alloc: Global, groups: &Items, members: &Items) -> Result<Groups, Memory>
+    ensures { IfOk result (λ r. r ≡ gather (zip groups.now members.now)) }
+{
+    let pairs = beside(alloc, groups, members)?;
+    gathered(alloc, pairs)
+}
+
+#[tactic(auto, using(crate::proofs::Beside::beside_none))]
+fn beside(alloc: Global, groups: &Items, members: &Items) -> Result<Vec<Pair>, Memory>
+    ensures { IfOk result (λ pairs. map pair_seen pairs.items ≡ zip groups.now members.now) }
+{
+    let mut pairs = Vec::new(alloc);
+    let mut place = 0;
+    while let (Some(group), Some(member)) = (groups.at(place), members.at(place)) {
+        let pair = Pair {
+            group: group.copy()?,
+            member: member.copy()?,
+        };
+        pairs.push(pair)?;
+        place += 1;
+    }
+    Ok(pairs)
 }

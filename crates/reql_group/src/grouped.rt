@@ -1,11 +1,17 @@
 // Groups, each with its datum.
 ghost use Rattle.std.specs.Prelude.{◌≡◌, [], ◌∷◌, ◌++◌, ◌+◌, ◌^◌, ◌<◌, length, map, drop, is_ok, IfOk, IfErr, OnSome, MatchOption, option_map, slice_get, nat_eq, if◌then◌else◌};
+ghost use Rattle.reql_datum.specs.Answer.{Answer};
+ghost use Rattle.reql_datum.specs.Called.{Means};
 ghost use Rattle.reql_datum.specs.Order.{order};
+ghost use Rattle.reql_datum.specs.Outcome.{Gives};
+ghost use Rattle.reql_datum.specs.Plain.{Plain};
 ghost use Rattle.reql_datum.specs.View.{plain};
 ghost use Rattle.reql_memory.specs.Sorted.{AllBelowBy, AreRisingBy};
+ghost use Rattle.reql_rules.specs.Lists.{each};
+ghost use Rattle.reql_group.specs.Reduced.{with_datum};
 ghost use Rattle.reql_group.specs.Seen.{group_seen};
 
-use reql_datum::Datum;
+use reql_datum::{Datum, Fault};
 use reql_memory::copy_on_write::{copied, push_on, shown};
 use reql_memory::{Memory, Refused};
 use std::alloc::{AllocError, Global};
@@ -139,5 +145,24 @@ impl Groups {
             alloc: self.alloc,
             held,
         })
+    }
+
+    /// The same groups, each with what `f` gives of its datum. The first fault is the answer.
+    pub fn map<F: Fn(&Datum) -> Result<Datum, Fault>>(
+        &self,
+        alloc: Global,
+        f: &F,
+    ) -> Result<Groups, Fault>
+        requires { F.IsAlwaysCallable f.now }
+        ensures { (m : Plain → Answer Plain) → Means F.Fn f.now m
+            → Gives (λ groups. groups) result (each (with_datum m) self.now) }
+    {
+        let mut groups = Groups::new(alloc);
+        let mut place = 0;
+        while let Some((group, datum)) = self.at(place) {
+            groups.push(group.copy()?, f(datum)?)?;
+            place += 1;
+        }
+        Ok(groups)
     }
 }
