@@ -50,6 +50,15 @@ pub fn group<F: Fn(&Datum) -> Result<Datum, Fault>>(
     Ok(gathered(alloc, pairs)?)
 }
 
+/// GROUP by values that are there, as those of an index: the members by the groups that stand beside
+/// them at their places, as far as both lists go.
+pub fn group_beside(alloc: Global, groups: &Items, members: &Items) -> Result<Groups, Memory>
+    ensures { IfOk result (λ r. r ≡ gather (zip groups.now members.now)) }
+{
+    let pairs = beside(alloc, groups, members)?;
+    gathered(alloc, pairs)
+}
+
 // Each element with its group.
 fn paired<F: Fn(&Datum) -> Result<Datum, Fault>>(
     alloc: Global,
@@ -79,6 +88,24 @@ fn or_null(answer: Result<Datum, Fault>) -> Result<Datum, Fault>
         Err(Fault::NonExistence(_)) => Ok(Datum::Null),
         Err(fault) => Err(fault),
     }
+}
+
+// Each member with the group beside it.
+#[tactic(auto, using(crate::proofs::Beside::beside_none))]
+fn beside(alloc: Global, groups: &Items, members: &Items) -> Result<Vec<Pair>, Memory>
+    ensures { IfOk result (λ pairs. map pair_seen pairs.items ≡ zip groups.now members.now) }
+{
+    let mut pairs = Vec::new(alloc);
+    let mut place = 0;
+    while let (Some(group), Some(member)) = (groups.at(place), members.at(place)) {
+        let pair = Pair {
+            group: group.copy()?,
+            member: member.copy()?,
+        };
+        pairs.push(pair)?;
+        place += 1;
+    }
+    Ok(pairs)
 }
 
 // The groups of the pairs.
@@ -150,30 +177,4 @@ fn is_of(pair: &Pair, run: &Run) -> bool
     ensures { result ≡ same (plain pair.now.group) (plain run.now.group) }
 {
     compare(&pair.group, &run.group).is_eq()
-}
-
-/// GROUP by the values of an index: the members by the groups that stand beside them, each at its
-/// place.
-pub fn group_beside(alloc: Global, groups: &Items, members: &Items) -> Result<Groups, Memory>
-    ensures { IfOk result (λ r. r ≡ gather (zip groups.now members.now)) }
-{
-    let pairs = beside(alloc, groups, members)?;
-    gathered(alloc, pairs)
-}
-
-#[tactic(auto, using(crate::proofs::Beside::beside_none))]
-fn beside(alloc: Global, groups: &Items, members: &Items) -> Result<Vec<Pair>, Memory>
-    ensures { IfOk result (λ pairs. map pair_seen pairs.items ≡ zip groups.now members.now) }
-{
-    let mut pairs = Vec::new(alloc);
-    let mut place = 0;
-    while let (Some(group), Some(member)) = (groups.at(place), members.at(place)) {
-        let pair = Pair {
-            group: group.copy()?,
-            member: member.copy()?,
-        };
-        pairs.push(pair)?;
-        place += 1;
-    }
-    Ok(pairs)
 }

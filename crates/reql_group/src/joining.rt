@@ -166,7 +166,7 @@ fn eq_join_each<F: Fn(&Datum) -> Result<Datum, Fault>, G: Fn(&Datum) -> Result<I
 }
 
 // None where a value is missing.
-pub(crate) fn if_any(answer: Result<Datum, Fault>) -> Result<Option<Datum>, Fault>
+fn if_any(answer: Result<Datum, Fault>) -> Result<Option<Datum>, Fault>
     ensures { (a : Answer Plain) → Gives plain answer a
         → Gives (option_map plain) result (if_any a) }
 {

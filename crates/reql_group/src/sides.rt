@@ -10,7 +10,7 @@ use std::marker::Model;
 
 /// The two names of the objects that a join makes. They are made once, and each object copies them.
 #[derive(Drop)]
-pub struct Sides {
+pub(crate) struct Sides {
     alloc: Global,
     left: Name,
     right: Name,

@@ -76,7 +76,7 @@ fn no_object(alloc: Global, item: &Datum) -> Result<Datum, Fault>
 }
 
 fn type_text(alloc: Global, found: &str) -> Result<Name, Memory>
-    ensures { IfOk result (λ text. text ≡ type_text (codes "OBJECT") found.now) }
+    ensures { IfOk result (λ r. r ≡ type_text (codes "OBJECT") found.now) }
 {
     let text = format!(in alloc; "Expected type OBJECT but found {}.", found)?;
     Name::of(alloc, text.as_str())
