@@ -4,7 +4,16 @@ ghost use Rattle.reql_datum.specs.Plain.{items_of, pairs_of};
 ghost use Rattle.reql_datum.specs.View.{plain};
 ghost use Rattle.reql_rules.specs.Patterns.{is_true, is_there, holds_inside, has, has_all, has_each};
 
+use crate::pattern::Pattern;
 use reql_datum::{Datum, Fields, Items};
+
+/// Whether an object has all that a pattern names (ReQL API reference, hasFields): each name is there
+/// and isn't null, and what is named inside a field is there in an object. Each name is looked up.
+pub fn has(o: &Fields, p: &Pattern) -> bool
+    ensures { result ≡ has p.now o.now }
+{
+    has_in(&p.document, o)
+}
 
 pub(crate) fn is_true(d: &Datum) -> bool
     ensures { result ≡ is_true (plain d.now) }
@@ -27,7 +36,7 @@ fn is_there(found: Option<&Datum>) -> bool
 
 #[cycle(has)]
 #[tactic(auto, using(reql_datum::proofs::Walks::walks, reql_datum::proofs::Back::back))]
-pub(crate) fn has_in(pattern: &Datum, object: &Fields) -> bool
+fn has_in(pattern: &Datum, object: &Fields) -> bool
     ensures { result ≡ has (plain pattern.now) object.now }
 {
     match pattern {
