@@ -1,8 +1,19 @@
 -- Patterns in one form: objects whose values are objects of that form, or true for a whole field.
-use Rattle.std.specs.Prelude.{◌≡◌, List, [], ◌∷◌, Bool, true, false, ◌&&◌, ◌||◌, if◌then◌else◌, Option, None}
+use Rattle.std.specs.Prelude.{◌≡◌, List, [], ◌∷◌, Bool, true, false, ◌&&◌, ◌||◌, if◌then◌else◌, Option, None, option_map}
+use Rattle.std.specs.Borrow.{Bor}
+use Rattle.reql_datum.specs.declared.datum.Datum.{Datum}
+use Rattle.reql_datum.specs.View.{plain}
 use Rattle.reql_datum.specs.Plain.{Plain, object, Pairs, no_pairs, pair}
-use Rattle.reql_rules.specs.Lists.{Bytes, object_of}
+use Rattle.reql_rules.specs.Lists.{Bytes, array_of, object_of}
 use Rattle.reql_rules.specs.Patterns.{is_true, is_pattern, Part, whole, inside, pluck_pairs, without_pairs, unless_literal, literal_or}
+
+-- a document that may be there, behind a reference
+abbrev pub seen : Option (Bor Datum) → Option Plain
+seen d = option_map (λ r. plain r.now) d
+
+-- what is so of the items where a value is their array
+abbrev pub IfArray : Plain → (List Plain → Type 0) → Type 0
+IfArray v P = (vs : List Plain) → v ≡ array_of vs → P vs
 
 abbrev mutual
   pub is_normal : Plain → Bool
@@ -40,3 +51,7 @@ item_kept v ps = None
 abbrev pub item_left : Plain → List Plain → Plain
 item_left (object ms) ps = literal_or ms (without_pairs ms ps)
 item_left v ps = v
+
+-- the object of these members as the one pattern of a list
+abbrev pub one_of : List (Bytes × Plain) → List Plain
+one_of ms = object_of ms ∷ []

@@ -1,10 +1,10 @@
 // An object without the parts that a pattern names.
-ghost use Rattle.std.specs.Prelude.{◌≡◌, ◌∷◌, [], ◌||◌, IfOk, List, option_map, true};
-ghost use Rattle.reql_datum.specs.Plain.{Plain, items_of, pairs_of};
+ghost use Rattle.std.specs.Prelude.{◌≡◌, ◌∷◌, [], ◌||◌, IfOk, option_map, true};
+ghost use Rattle.reql_datum.specs.Plain.{items_of, pairs_of};
 ghost use Rattle.reql_datum.specs.View.{plain};
-ghost use Rattle.reql_rules.specs.Lists.{array_of, object_of};
+ghost use Rattle.reql_rules.specs.Lists.{object_of};
 ghost use Rattle.reql_rules.specs.Patterns.{is_true, left, without, without_in, without_items, without_pairs, literal_or};
-ghost use Rattle.reql_path.specs.Normal.{is_normal, are_normal, member_part, item_left};
+ghost use Rattle.reql_path.specs.Normal.{is_normal, are_normal, member_part, item_left, one_of, IfArray};
 
 use crate::building::{put_also, put_copy};
 use crate::pattern::Pattern;
@@ -12,13 +12,13 @@ use reql_datum::{Datum, Fields, Items, Memory};
 use std::alloc::Global;
 use std::cmp::Ordering;
 
-/// An object without what a pattern names (ReQL API reference, without). Inside a field what is named
-/// is taken out of an object, or out of each object in an array; all else stays.
+/// An object without what a pattern names (ReQL API reference, without). Inside a field what is
+/// named is taken out of an object, or out of each object in an array; all else stays.
 ///
 /// It walks the object and what the pattern names once, and shares whatever it keeps whole.
 pub fn without(alloc: Global, o: &Fields, p: &Pattern) -> Result<Fields, Memory>
     ensures one { IfOk result (λ r. object_of r ≡ without (p.now ∷ []) (object_of o.now)) }
-    ensures several { (ps : List Plain) → p.now ≡ array_of ps → IfOk result (λ r. object_of r ≡ without ps (object_of o.now)) }
+    ensures several { IfArray p.now (λ ps. IfOk result (λ r. object_of r ≡ without ps (object_of o.now))) }
 {
     left(alloc, o, &p.parts)
 }
@@ -27,7 +27,7 @@ pub fn without(alloc: Global, o: &Fields, p: &Pattern) -> Result<Fields, Memory>
 #[cycle(exclude)]
 fn left(alloc: Global, o: &Fields, parts: &Fields) -> Result<Fields, Memory>
     requires { are_normal (pairs_of parts.now) ≡ true }
-    ensures { IfOk result (λ r. pairs_of r ≡ without_pairs (pairs_of o.now) (object_of parts.now ∷ [])) }
+    ensures { IfOk result (λ r. pairs_of r ≡ without_pairs (pairs_of o.now) (one_of parts.now)) }
 {
     let mut fields = Fields::with_room(alloc, o.len())?;
     let mut from = 0;
@@ -77,7 +77,7 @@ fn left_of_field(alloc: Global, value: &Datum, part: &Datum) -> Result<Option<Da
 #[cycle(exclude)]
 fn left_inside(alloc: Global, value: &Datum, parts: &Fields) -> Result<Datum, Memory>
     requires { are_normal (pairs_of parts.now) ≡ true }
-    ensures { IfOk result (λ r. plain r ≡ without_in (plain value.now) (object_of parts.now ∷ [])) }
+    ensures { IfOk result (λ r. plain r ≡ without_in (plain value.now) (one_of parts.now)) }
 {
     match value {
         Datum::Obj(fields) => left_of_object(alloc, fields, parts),
@@ -93,7 +93,7 @@ fn left_inside(alloc: Global, value: &Datum, parts: &Fields) -> Result<Datum, Me
 #[cycle(exclude)]
 fn left_of_object(alloc: Global, o: &Fields, parts: &Fields) -> Result<Datum, Memory>
     requires { are_normal (pairs_of parts.now) ≡ true }
-    ensures { IfOk result (λ r. plain r ≡ literal_or (pairs_of o.now) (without_pairs (pairs_of o.now) (object_of parts.now ∷ []))) }
+    ensures { IfOk result (λ r. plain r ≡ literal_or (pairs_of o.now) (without_pairs (pairs_of o.now) (one_of parts.now))) }
 {
     if o.is_literal() {
         let literal = o.copy()?;
@@ -107,7 +107,7 @@ fn left_of_object(alloc: Global, o: &Fields, parts: &Fields) -> Result<Datum, Me
 #[tactic(auto, using(reql_datum::proofs::Walks::walks))]
 fn left_of_items(alloc: Global, items: &Items, parts: &Fields) -> Result<Items, Memory>
     requires { are_normal (pairs_of parts.now) ≡ true }
-    ensures { IfOk result (λ r. items_of r ≡ without_items (items_of items.now) (object_of parts.now ∷ [])) }
+    ensures { IfOk result (λ r. items_of r ≡ without_items (items_of items.now) (one_of parts.now)) }
 {
     let mut rest = Items::with_room(alloc, items.len())?;
     let mut place = 0;
@@ -122,7 +122,7 @@ fn left_of_items(alloc: Global, items: &Items, parts: &Fields) -> Result<Items, 
 #[cycle(exclude)]
 fn left_of_item(alloc: Global, item: &Datum, parts: &Fields) -> Result<Datum, Memory>
     requires { are_normal (pairs_of parts.now) ≡ true }
-    ensures { IfOk result (λ r. plain r ≡ item_left (plain item.now) (object_of parts.now ∷ [])) }
+    ensures { IfOk result (λ r. plain r ≡ item_left (plain item.now) (one_of parts.now)) }
 {
     match item {
         Datum::Obj(fields) => left_of_object(alloc, fields, parts),

@@ -14,8 +14,8 @@ use std::marker::Model;
 /// A field pattern: a text, an object whose values are patterns or true, or an array of patterns.
 /// Several patterns are as the array of them.
 ///
-/// Contracts see it as the document that it was made of. It holds what that names as one object too,
-/// in which each name stands once, so that an object and a pattern are walked side by side.
+/// Contracts see it as the document that it was made of. It also holds what that names as one
+/// object, in which each name stands once, so that an object and a pattern are walked side by side.
 #[derive(Drop)]
 pub struct Pattern {
     pub(crate) document: Datum,
@@ -42,8 +42,8 @@ impl Model for Pattern {
 /// Why a document gives no pattern.
 #[derive(PartialEq, Eq, Debug, Drop)]
 pub enum PathFault {
-    /// It is no pattern: something in it is neither a text, an object, nor an array, nor true as the
-    /// value of a name; or it has a LITERAL.
+    /// Something in it is neither a text, an object, an array, nor true as the value of a name; or
+    /// it holds a LITERAL.
     BadPattern,
     Memory,
 }
