@@ -1,5 +1,5 @@
--- Members of an object that is built, where there are any.
-use Rattle.std.specs.Prelude.{List, ◌∷◌, Option, Some, None}
+-- Members and items of an object and a list that are built, where there are any.
+use Rattle.std.specs.Prelude.{List, [], ◌∷◌, ◌++◌, Option, Some, None}
 use Rattle.reql_datum.specs.Members.{put}
 use Rattle.reql_datum.specs.Plain.{Plain}
 use Rattle.reql_rules.specs.Lists.{Bytes}
@@ -12,3 +12,8 @@ put_also k (Some v) ms = put k v ms
 abbrev pub member_also : Bytes → Option Plain → List (Bytes × Plain) → List (Bytes × Plain)
 member_also k None ms = ms
 member_also k (Some v) ms = (k, v) ∷ ms
+
+-- one item more at the end, where there is one
+abbrev pub push_also : Option Plain → List Plain → List Plain
+push_also None vs = vs
+push_also (Some v) vs = vs ++ v ∷ []

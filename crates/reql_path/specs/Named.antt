@@ -1,9 +1,10 @@
 -- What patterns name, gathered by names.
-use Rattle.std.specs.Prelude.{◌≡◌, ℕ, suc, ◌≤◌, max, List, [], ◌∷◌, true, Option, Some, None}
+use Rattle.std.specs.Prelude.{◌≡◌, ℕ, suc, ◌≤◌, max, List, [], ◌∷◌, true, if◌then◌else◌, Option, Some, None}
 use Rattle.reql_datum.specs.Members.{find, AreRising}
-use Rattle.reql_datum.specs.Plain.{Plain, boolean, items_of, items_depth}
+use Rattle.reql_datum.specs.Plain.{Plain, boolean, depth, items_of, pairs_of, items_depth, pairs_depth}
 use Rattle.reql_rules.specs.Lists.{Bytes}
-use Rattle.reql_rules.specs.Patterns.{Part, nothing, whole, inside, both}
+use Rattle.reql_rules.specs.Patterns.{Part, nothing, whole, inside, both, field_part, part, part_of_items, part_of_pairs}
+use Rattle.reql_rules.specs.Types.{same_text}
 use Rattle.reql_path.specs.Normal.{Compiles}
 use Rattle.reql_path.specs.declared.gathering.Wanted.{Wanted}
 use Rattle.reql_path.specs.declared.gathering.Wanted.TheVariants.{Whole, Inside}
@@ -37,6 +38,23 @@ pub record Gathers (old new : List (Bytes × Wanted)) (more : Bytes → Part) (d
   pub parts : (k : Bytes) → named_part k new ≡ both (named_part k old) (more k)
   pub bound : reach_all new ≤ max (reach_all old) (suc deep)
   pub rising : AreRising old → AreRising new
+
+-- a part of one name alone
+abbrev pub only : Bytes → Part → Bytes → Part
+only j p k = if same_text k j then p else nothing
+
+-- what a member of a pattern names, what its members do, what a pattern does, and what several do
+abbrev pub GathersMember : List (Bytes × Wanted) → List (Bytes × Wanted) → Bytes → Plain → Type 0
+GathersMember old new j v = Gathers old new (λ k. field_part k j v) (suc (depth v))
+
+abbrev pub GathersMembers : List (Bytes × Wanted) → List (Bytes × Wanted) → List (Bytes × Plain) → Type 0
+GathersMembers old new ms = Gathers old new (λ k. part_of_pairs k (pairs_of ms)) (suc (pairs_depth (pairs_of ms)))
+
+abbrev pub GathersPattern : List (Bytes × Wanted) → List (Bytes × Wanted) → Plain → Type 0
+GathersPattern old new p = Gathers old new (λ k. part k p) (depth p)
+
+abbrev pub GathersPatterns : List (Bytes × Wanted) → List (Bytes × Wanted) → List Plain → Type 0
+GathersPatterns old new ps = Gathers old new (λ k. part_of_items k (items_of ps)) (items_depth (items_of ps))
 
 -- a value in the one form that names the same
 abbrev pub StandsFor : Wanted → Plain → Type 0

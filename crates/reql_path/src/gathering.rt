@@ -1,10 +1,9 @@
 // What patterns name, gathered by names.
-ghost use Rattle.std.specs.Prelude.{◌≡◌, suc, ◌≤◌, ◌∷◌, [], ◌++◌, max, IfOk, if◌then◌else◌};
-ghost use Rattle.reql_datum.specs.Plain.{depth, items_of, pairs_of, items_depth, pairs_depth};
+ghost use Rattle.std.specs.Prelude.{◌≡◌, suc, ◌≤◌, ◌∷◌, [], ◌++◌, max, IfOk};
+ghost use Rattle.reql_datum.specs.Plain.{depth};
 ghost use Rattle.reql_datum.specs.View.{plain};
-ghost use Rattle.reql_rules.specs.Patterns.{nothing, whole, inside, both, field_part, part, part_of_items, part_of_pairs, part_of_all};
-ghost use Rattle.reql_rules.specs.Types.{same_text};
-ghost use Rattle.reql_path.specs.Named.{wanted_part, part_there, reach, reach_there, Gathers};
+ghost use Rattle.reql_rules.specs.Patterns.{whole, inside, both};
+ghost use Rattle.reql_path.specs.Named.{wanted_part, part_there, reach, reach_there, only, Gathers, GathersMember, GathersMembers, GathersPattern, GathersPatterns};
 ghost use Rattle.reql_path.specs.declared.gathering.Wanted.TheVariants.{Inside};
 
 use crate::having::is_true;
@@ -49,7 +48,7 @@ fn add_inside(
     name: &Name,
     pattern: &Datum,
 ) -> Result<(), Memory>
-    ensures { IfOk result (λ _. Gathers named.old.entries named.new.entries (λ k. if same_text k name.now then inside (plain pattern.now ∷ []) else nothing) (suc (depth (plain pattern.now)))) }
+    ensures { IfOk result (λ _. Gathers named.old.entries named.new.entries (only name.now (inside (plain pattern.now ∷ []))) (suc (depth (plain pattern.now)))) }
 {
     let old = named.remove(name);
     let wanted = inside_also(alloc, old, pattern)?;
@@ -60,7 +59,7 @@ fn add_inside(
 
 // A name that is wanted whole.
 fn add_whole(named: &mut BTreeMap<Name, Wanted>, name: &Name) -> Result<(), Memory>
-    ensures { IfOk result (λ _. Gathers named.old.entries named.new.entries (λ k. if same_text k name.now then whole else nothing) 0) }
+    ensures { IfOk result (λ _. Gathers named.old.entries named.new.entries (only name.now whole) 0) }
 {
     let key = name.copy()?;
     drop(named.insert(key, Wanted::Whole)?);
@@ -74,7 +73,7 @@ fn add_field(
     name: &Name,
     pattern: &Datum,
 ) -> Result<(), Memory>
-    ensures { IfOk result (λ _. Gathers named.old.entries named.new.entries (λ k. field_part k name.now (plain pattern.now)) (suc (depth (plain pattern.now)))) }
+    ensures { IfOk result (λ _. GathersMember named.old.entries named.new.entries name.now (plain pattern.now)) }
 {
     if is_true(pattern) {
         return add_whole(named, name);
@@ -87,7 +86,7 @@ fn add_fields(
     named: &mut BTreeMap<Name, Wanted>,
     fields: &Fields,
 ) -> Result<(), Memory>
-    ensures { IfOk result (λ _. Gathers named.old.entries named.new.entries (λ k. part_of_pairs k (pairs_of fields.now)) (suc (pairs_depth (pairs_of fields.now)))) }
+    ensures { IfOk result (λ _. GathersMembers named.old.entries named.new.entries fields.now) }
 {
     let mut place = 0;
     while let Some((name, pattern)) = fields.at(place) {
@@ -100,7 +99,7 @@ fn add_fields(
 #[cycle(add)]
 #[tactic(auto, using(reql_datum::proofs::Walks::walks))]
 fn add(alloc: Global, named: &mut BTreeMap<Name, Wanted>, pattern: &Datum) -> Result<(), Memory>
-    ensures { IfOk result (λ _. Gathers named.old.entries named.new.entries (λ k. part k (plain pattern.now)) (depth (plain pattern.now))) }
+    ensures { IfOk result (λ _. GathersPattern named.old.entries named.new.entries (plain pattern.now)) }
 {
     match pattern {
         Datum::Text(name) => add_whole(named, name),
@@ -117,7 +116,7 @@ fn add_all(
     named: &mut BTreeMap<Name, Wanted>,
     patterns: &Items,
 ) -> Result<(), Memory>
-    ensures { IfOk result (λ _. Gathers named.old.entries named.new.entries (λ k. part_of_items k (items_of patterns.now)) (items_depth (items_of patterns.now))) }
+    ensures { IfOk result (λ _. GathersPatterns named.old.entries named.new.entries patterns.now) }
 {
     let mut place = 0;
     while let Some(pattern) = patterns.at(place) {
@@ -129,7 +128,7 @@ fn add_all(
 
 /// What patterns name, by rising names.
 pub(crate) fn gathered(alloc: Global, patterns: &Items) -> Result<BTreeMap<Name, Wanted>, Memory>
-    ensures { IfOk result (λ r. Gathers [] r.entries (λ k. part_of_all k patterns.now) (items_depth (items_of patterns.now))) }
+    ensures { IfOk result (λ r. GathersPatterns [] r.entries patterns.now) }
 {
     let mut named = BTreeMap::new(alloc);
     add_all(alloc, &mut named, patterns)?;

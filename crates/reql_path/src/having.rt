@@ -1,10 +1,23 @@
 // Whether an object has all that a pattern names.
-ghost use Rattle.std.specs.Prelude.{◌≡◌, option_map};
+ghost use Rattle.std.specs.Prelude.{◌≡◌};
 ghost use Rattle.reql_datum.specs.Plain.{items_of, pairs_of};
 ghost use Rattle.reql_datum.specs.View.{plain};
-ghost use Rattle.reql_rules.specs.Patterns.{is_true, is_there, holds_inside, has, has_all, has_each};
+ghost use Rattle.reql_path.specs.Normal.{seen, IfArray};
+ghost use Rattle.reql_rules.specs.Patterns.{is_true, is_there, holds_inside, has, has_all, has_each, has_fields};
 
+use crate::pattern::Pattern;
 use reql_datum::{Datum, Fields, Items};
+
+/// Whether an object has all that a pattern names (ReQL API reference, hasFields): each name is
+/// there and isn't null, and what is named inside a field is there in an object.
+///
+/// Each name is looked up.
+pub fn has(o: &Fields, p: &Pattern) -> bool
+    ensures one { result ≡ has p.now o.now }
+    ensures several { IfArray p.now (λ ps. result ≡ has_fields ps o.now) }
+{
+    has_in(&p.document, o)
+}
 
 pub(crate) fn is_true(d: &Datum) -> bool
     ensures { result ≡ is_true (plain d.now) }
@@ -16,7 +29,7 @@ pub(crate) fn is_true(d: &Datum) -> bool
 }
 
 fn is_there(found: Option<&Datum>) -> bool
-    ensures { result ≡ is_there (option_map (λ d. plain d.now) found.entry) }
+    ensures { result ≡ is_there (seen found.entry) }
 {
     match found {
         None => false,
@@ -27,7 +40,7 @@ fn is_there(found: Option<&Datum>) -> bool
 
 #[cycle(has)]
 #[tactic(auto, using(reql_datum::proofs::Walks::walks, reql_datum::proofs::Back::back))]
-pub(crate) fn has_in(pattern: &Datum, object: &Fields) -> bool
+fn has_in(pattern: &Datum, object: &Fields) -> bool
     ensures { result ≡ has (plain pattern.now) object.now }
 {
     match pattern {
@@ -78,7 +91,7 @@ fn has_each(named: &Fields, object: &Fields) -> bool
 #[cycle(has)]
 #[tactic(auto, using(reql_datum::proofs::Walks::walks, reql_datum::proofs::Back::back))]
 fn has_inside(pattern: &Datum, found: Option<&Datum>) -> bool
-    ensures { result ≡ holds_inside (has (plain pattern.now)) (option_map (λ d. plain d.now) found.entry) }
+    ensures { result ≡ holds_inside (has (plain pattern.now)) (seen found.entry) }
 {
     match found {
         Some(Datum::Obj(object)) => !object.is_literal() && has_in(pattern, object),

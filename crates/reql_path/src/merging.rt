@@ -1,8 +1,10 @@
 // The merging of documents.
 ghost use Rattle.std.specs.Prelude.{◌≡◌, IfOk, option_map, Some, false};
-ghost use Rattle.reql_datum.specs.Plain.{object, pairs_of};
+ghost use Rattle.reql_datum.specs.Plain.{pairs_of};
 ghost use Rattle.reql_datum.specs.View.{plain};
+ghost use Rattle.reql_path.specs.Normal.{seen};
 ghost use Rattle.reql_datum.specs.Kinds.{is_literal};
+ghost use Rattle.reql_rules.specs.Lists.{object_of};
 ghost use Rattle.reql_rules.specs.Merging.{merge, merged, merged_pairs, resolved, resolved_pairs, literal_value};
 
 use crate::building::{put_also, put_copy};
@@ -10,9 +12,10 @@ use reql_datum::{Datum, Fields, Memory};
 use std::alloc::Global;
 use std::cmp::Ordering;
 
-/// A new document merged into an old one (ReQL API reference, merge): where both are objects, a name
-/// in one alone is kept and the values at a name in both are merged, else the new one stands. A
-/// LITERAL of a value stands for that value unmerged, and one of nothing takes its name away.
+/// A new document merged into an old one (ReQL API reference, merge): where both are objects, a
+/// name in one alone is kept and the values at a name in both are merged, else the new one stands.
+/// A LITERAL of a value stands for that value unmerged, and one of nothing takes its name away; in
+/// place of the whole it gives null.
 ///
 /// It walks the objects that it merges once, and shares whatever it keeps whole.
 pub fn merge(alloc: Global, old: &Datum, new: &Datum) -> Result<Datum, Memory>
@@ -38,40 +41,40 @@ fn literal_value(literal: &Fields) -> Result<Option<Datum>, Memory>
 // A new value that stands, with the LITERALs of its fields taken. One without any is shared.
 #[cycle(resolve)]
 #[tactic(auto, using(reql_datum::proofs::Walks::walks, crate::proofs::Resolved::resolves))]
-fn resolved(alloc: Global, new: &Datum) -> Result<Option<Datum>, Memory>
-    ensures { IfOk result (λ r. option_map plain r ≡ resolved (plain new.now)) }
+fn resolved(alloc: Global, value: &Datum) -> Result<Option<Datum>, Memory>
+    ensures { IfOk result (λ r. option_map plain r ≡ resolved (plain value.now)) }
 {
-    if new.is_storable() {
-        return Ok(Some(new.copy()?));
-    }
-    match new {
-        Datum::Obj(fields) => resolved_object(alloc, fields),
-        _ => Ok(Some(new.copy()?)),
+    match value {
+        Datum::Obj(object) => resolved_object(alloc, object),
+        _ => Ok(Some(value.copy()?)),
     }
 }
 
 #[cycle(resolve)]
 #[tactic(auto, using(reql_datum::proofs::Walks::walks, crate::proofs::Resolved::resolves))]
-fn resolved_object(alloc: Global, new: &Fields) -> Result<Option<Datum>, Memory>
-    ensures { IfOk result (λ r. option_map plain r ≡ resolved (object (pairs_of new.now))) }
+fn resolved_object(alloc: Global, object: &Fields) -> Result<Option<Datum>, Memory>
+    ensures { IfOk result (λ r. option_map plain r ≡ resolved (object_of object.now)) }
 {
-    if new.is_literal() {
-        return literal_value(new);
+    if object.is_storable() {
+        return Ok(Some(Datum::Obj(object.copy()?)));
     }
-    let fields = resolved_fields(alloc, new)?;
+    if object.is_literal() {
+        return literal_value(object);
+    }
+    let fields = resolved_fields(alloc, object)?;
     Ok(Some(Datum::Obj(fields)))
 }
 
 #[cycle(resolve)]
 #[tactic(auto, using(reql_datum::proofs::Walks::walks, crate::proofs::Resolved::resolves))]
-fn resolved_fields(alloc: Global, new: &Fields) -> Result<Fields, Memory>
-    ensures { IfOk result (λ r. pairs_of r ≡ resolved_pairs (pairs_of new.now)) }
+fn resolved_fields(alloc: Global, members: &Fields) -> Result<Fields, Memory>
+    ensures { IfOk result (λ r. pairs_of r ≡ resolved_pairs (pairs_of members.now)) }
 {
-    let mut fields = Fields::with_room(alloc, new.len())?;
+    let mut fields = Fields::with_room(alloc, members.len())?;
     let mut place = 0;
-    while let Some((name, value)) = new.at(place) {
-        let value = resolved(alloc, value)?;
-        put_also(&mut fields, name, value)?;
+    while let Some((name, value)) = members.at(place) {
+        let stands = resolved(alloc, value)?;
+        put_also(&mut fields, name, stands)?;
         place += 1;
     }
     Ok(fields)
@@ -81,7 +84,7 @@ fn resolved_fields(alloc: Global, new: &Fields) -> Result<Fields, Memory>
 #[cycle(merge)]
 #[tactic(auto, using(reql_datum::proofs::Walks::walks, reql_datum::proofs::Back::back))]
 fn merged(alloc: Global, old: Option<&Datum>, new: &Datum) -> Result<Option<Datum>, Memory>
-    ensures { IfOk result (λ r. option_map plain r ≡ merged (plain new.now) (option_map (λ d. plain d.now) old.entry)) }
+    ensures { IfOk result (λ r. option_map plain r ≡ merged (plain new.now) (seen old.entry)) }
 {
     match new {
         Datum::Obj(fields) => merged_object(alloc, old, fields),
@@ -92,7 +95,7 @@ fn merged(alloc: Global, old: Option<&Datum>, new: &Datum) -> Result<Option<Datu
 #[cycle(merge)]
 #[tactic(auto, using(reql_datum::proofs::Walks::walks, reql_datum::proofs::Back::back))]
 fn merged_object(alloc: Global, old: Option<&Datum>, new: &Fields) -> Result<Option<Datum>, Memory>
-    ensures { IfOk result (λ r. option_map plain r ≡ merged (object (pairs_of new.now)) (option_map (λ d. plain d.now) old.entry)) }
+    ensures { IfOk result (λ r. option_map plain r ≡ merged (object_of new.now) (seen old.entry)) }
 {
     if new.is_literal() {
         return literal_value(new);
@@ -108,7 +111,7 @@ fn merged_object(alloc: Global, old: Option<&Datum>, new: &Fields) -> Result<Opt
 #[tactic(auto, using(reql_datum::proofs::Walks::walks, reql_datum::proofs::Back::back))]
 fn merged_onto(alloc: Global, old: &Fields, new: &Fields) -> Result<Option<Datum>, Memory>
     requires { is_literal (pairs_of new.now) ≡ false }
-    ensures { IfOk result (λ r. option_map plain r ≡ merged (object (pairs_of new.now)) (Some (object (pairs_of old.now)))) }
+    ensures { IfOk result (λ r. option_map plain r ≡ merged (object_of new.now) (Some (object_of old.now))) }
 {
     if old.is_literal() {
         return resolved_object(alloc, new);
