@@ -166,3 +166,10 @@ impl Groups {
         Ok(groups)
     }
 }
+
+fn crosses<T: Send + Sync>(_held: &T) {}
+
+// Proved only while groups may be sent to other threads, and shared with them.
+fn groups_cross(groups: &Groups) {
+    crosses(groups);
+}
