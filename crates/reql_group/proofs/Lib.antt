@@ -1,0 +1,5 @@
+mod Joined
+pub mod Rise
+mod Runs
+mod Sorting
+mod Beside
