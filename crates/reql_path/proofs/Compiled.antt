@@ -81,13 +81,13 @@ compiles_built ps ws ms g up h =
 -- ---- the loop
 pub record Builds (done : List (Bytes × Plain)) (rest all : List (Bytes × Wanted)) : Type 0 where
   pub front : List (Bytes × Wanted)
-  pub whole : front ++ rest ≡ all
+  pub adds_up : front ++ rest ≡ all
   pub stand : AllStandFor front done
   pub rising : AreRising all
   pub bound : reach_all rest ≤ reach_all all
 
 pub builds_start : (all : List (Bytes × Wanted)) → AreRising all → Builds [] all all
-builds_start all up = record { front = []; whole = refl; stand = tt; rising = up; bound = omega arith }
+builds_start all up = record { front = []; adds_up = refl; stand = tt; rising = up; bound = omega arith }
 
 stand_more : (ws : List (Bytes × Wanted)) (ms : List (Bytes × Plain)) (k : Bytes) (w : Wanted) (v : Plain) → AllStandFor ws ms → StandsFor w v → AllStandFor (ws ++ (k, w) ∷ []) (ms ++ (k, v) ∷ [])
 stand_more [] [] k w v h on = (refl, on, tt)
@@ -97,12 +97,12 @@ stand_more (u ∷ ws) (m ∷ ms) k w v h on = (h.0, h.1, stand_more ws ms k w v 
 
 pub builds_next : (done : List (Bytes × Plain)) (rest later all : List (Bytes × Wanted)) (k : Bytes) (w : Wanted) (v : Plain) → rest ≡ (k, w) ∷ later → StandsFor w v → Builds done rest all → Builds (put k v done) later all
 builds_next done rest later all k w v is on b =
-    let joined : (b.front ++ (k, w) ∷ []) ++ later ≡ all = append_assoc b.front ((k, w) ∷ []) later ∙ ap (λ t. b.front ++ t) (sym is) ∙ b.whole in
+    let joined : (b.front ++ (k, w) ∷ []) ++ later ≡ all = append_assoc b.front ((k, w) ∷ []) later ∙ ap (λ t. b.front ++ t) (sym is) ∙ b.adds_up in
     let stands : AllStandFor (b.front ++ (k, w) ∷ []) (done ++ (k, v) ∷ []) = stand_more b.front done k w v b.stand on in
     let up : AreRising (b.front ++ (k, w) ∷ []) = rising_front text_order nat_list_cmp_total (b.front ++ (k, w) ∷ []) later (rw joined b.rising) in
     let last : put k v done ≡ done ++ (k, v) ∷ [] = put_next text_order nat_list_cmp_total done [] k v (rising_stand (b.front ++ (k, w) ∷ []) (done ++ (k, v) ∷ []) stands up) in
     let below : reach_all ((k, w) ∷ later) ≤ reach_all all = rw is at b.bound in
-    record { front = b.front ++ (k, w) ∷ []; whole = joined; stand = rw last stands; rising = b.rising; bound = omega (arith, below) }
+    record { front = b.front ++ (k, w) ∷ []; adds_up = joined; stand = rw last stands; rising = b.rising; bound = omega (arith, below) }
 
 pub builds_below : (done : List (Bytes × Plain)) (rest later all : List (Bytes × Wanted)) (k : Bytes) (w : Wanted) → rest ≡ (k, w) ∷ later → Builds done rest all → reach w ≤ reach_all all
 builds_below done rest later all k w is b =
@@ -111,7 +111,7 @@ builds_below done rest later all k w is b =
 
 pub builds_end : (done : List (Bytes × Plain)) (rest all : List (Bytes × Wanted)) → rest ≡ [] → Builds done rest all → AllStandFor all done
 builds_end done rest all is b =
-    let e : b.front ≡ all = sym (append-nil b.front) ∙ ap (λ t. b.front ++ t) (sym is) ∙ b.whole in
+    let e : b.front ≡ all = sym (append-nil b.front) ∙ ap (λ t. b.front ++ t) (sym is) ∙ b.adds_up in
     rw (← e) b.stand
 
 pub ok_with : {A E : Type 0} (r : Result A E) (P Q : A → Type 0) → ((x : A) → P x → Q x) → IfOk r P → IfOk r Q

@@ -29,7 +29,7 @@ all_above j k (m ∷ ms) h all = (nat_list_cmp_total.trans j k m.0 h all.0, all_
 pub above_next : (j : Bytes) (m : Bytes × Plain) (ms : List (Bytes × Plain)) → text_order j m.0 ≡ Less → AreRising (m ∷ ms) → AllAbove j (m ∷ ms)
 above_next j m ms h up = (h, all_above j m.0 ms h (above_rest m ms up))
 
-flipped : (j k : Bytes) → text_order j k ≡ Less → text_order k j ≡ Greater
+pub flipped : (j k : Bytes) → text_order j k ≡ Less → text_order k j ≡ Greater
 flipped j k h = nat_list_cmp_total.antisymm k j ∙ ap ordering_reverse h
 
 set_past : (k j : Bytes) (o : Option Plain) (u : Plain) (us : List (Bytes × Plain)) → text_order k j ≡ Greater → set_to k o ((j, u) ∷ us) ≡ (j, u) ∷ set_to k o us
@@ -94,20 +94,20 @@ merges_both k v u us ms all =
 
 -- ---- the walk: what is merged, and what is left to be merged, is all
 pub record Merges (done us ms all : List (Bytes × Plain)) : Type 0 where
-  pub whole : done ++ merged_pairs (pairs_of ms) us ≡ all
+  pub adds_up : done ++ merged_pairs (pairs_of ms) us ≡ all
   pub rising_old : AreRising us
   pub rising_new : AreRising ms
   pub rising_all : AreRising all
 
 pub merges_start : (us ms : List (Bytes × Plain)) → AreRising us → AreRising ms → Merges [] us ms (merged_pairs (pairs_of ms) us)
-merges_start us ms up on = record { whole = refl; rising_old = up; rising_new = on; rising_all = rising_merged (pairs_of ms) us up }
+merges_start us ms up on = record { adds_up = refl; rising_old = up; rising_new = on; rising_all = rising_merged (pairs_of ms) us up }
 
 pub merges_old : (done us ms all rest : List (Bytes × Plain)) (j : Bytes) (u : Plain) → us ≡ (j, u) ∷ rest → AllAbove j ms → Merges done us ms all → Merges (put j u done) rest ms all
 merges_old done us ms all rest j u is above m =
     let up : AreRising ((j, u) ∷ rest) = rw is at m.rising_old in
     let next : merged_pairs (pairs_of ms) us ≡ (j, u) ∷ merged_pairs (pairs_of ms) rest = rw is (keeps_first j u rest ms above) in
     record {
-      whole = put_step done (merged_pairs (pairs_of ms) rest) all j u m.rising_all (ap (λ t. done ++ t) (sym next) ∙ m.whole);
+      adds_up = put_step done (merged_pairs (pairs_of ms) rest) all j u m.rising_all (ap (λ t. done ++ t) (sym next) ∙ m.adds_up);
       rising_old = rising_rest (j, u) rest up;
       rising_new = m.rising_new;
       rising_all = m.rising_all;
@@ -130,7 +130,7 @@ merges_new done us ms all later k v o at above e m =
     let next : merged_pairs (pairs_of ms) us ≡ member_also k o (merged_pairs (pairs_of later) us) =
     rw (at, e) (merges_alone k v us later m.rising_old above (above_rest (k, v) later on)) in
     record {
-      whole = put_also_step done (merged_pairs (pairs_of later) us) all k o m.rising_all (ap (λ t. done ++ t) (sym next) ∙ m.whole);
+      adds_up = put_also_step done (merged_pairs (pairs_of later) us) all k o m.rising_all (ap (λ t. done ++ t) (sym next) ∙ m.adds_up);
       rising_old = m.rising_old;
       rising_new = rising_rest (k, v) later on;
       rising_all = m.rising_all;
@@ -159,7 +159,7 @@ merges_equal done us ms all rest later j k u v o is at equal e m =
     let next : merged_pairs (pairs_of ms) us ≡ member_also k o (merged_pairs (pairs_of later) rest) =
     rw (at, old_is, e) (merges_both k v u rest later (above_rest (k, v) later on)) in
     record {
-      whole = put_also_step done (merged_pairs (pairs_of later) rest) all k o m.rising_all (ap (λ t. done ++ t) (sym next) ∙ m.whole);
+      adds_up = put_also_step done (merged_pairs (pairs_of later) rest) all k o m.rising_all (ap (λ t. done ++ t) (sym next) ∙ m.adds_up);
       rising_old = rising_rest (k, u) rest up;
       rising_new = rising_rest (k, v) later on;
       rising_all = m.rising_all;

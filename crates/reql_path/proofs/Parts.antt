@@ -14,8 +14,8 @@ use Rattle.reql_rules.specs.Lists.{Bytes, object_of, array_of}
 use Rattle.reql_rules.specs.Patterns.{is_true, Part, nothing, whole, inside, both, part_of_pairs, part_of_items, part_of_all, kept, left, pair_also, item_also, pluck_in, pluck_items, pluck_pairs, without_in, without_items, without_pairs, pluck, without}
 use Rattle.reql_path.specs.Building.{put_also, member_also, push_also}
 use Rattle.reql_path.specs.Normal.{is_normal, are_normal, member_part, Alike, IsCompiled, item_kept, item_left}
-use Rattle.reql_path.proofs.Resolved.{put_also_step, both_left, both_right}
-use Rattle.reql_path.proofs.Merged.{AllAbove, above_rest, above_next}
+use Rattle.reql_path.proofs.Resolved.{put_also_step, both_left, both_right, all_also, rising_also, also_is}
+use Rattle.reql_path.proofs.Merged.{AllAbove, above_rest, above_next, flipped}
 use Rattle.reql_path.proofs.Gathered.{both_nothing}
 use Rattle.reql_path.proofs.Alike.{object_part, alike_parts, PartsAlike, items_kept, items_left}
 
@@ -49,9 +49,6 @@ named_first k v ps all =
     named_pairs ((k, v) ∷ ps) k
     ∙ (rw (tied_itself nat_list_cmp_total k) (ap (both (member_part v)) (above_nothing k ps all) ∙ both_nothing (member_part v)))
 
-flipped : (j k : Bytes) → text_order j k ≡ Less → text_order k j ≡ Greater
-flipped j k h = nat_list_cmp_total.antisymm k j ∙ ap ordering_reverse h
-
 -- a name above the first that is named
 named_past : (j k : Bytes) (v : Plain) (ps : List (Bytes × Plain)) → text_order j k ≡ Less → named ((j, v) ∷ ps) k ≡ named ps k
 named_past j k v ps below =
@@ -66,18 +63,9 @@ module _ (keeps : Plain → Part → Option Plain) where
   by_parts [] ps = []
   by_parts (m ∷ ms) ps = member_also m.0 (keeps m.1 (named ps m.0)) (by_parts ms ps)
 
-  all_also : (P : Bytes → Type 0) (k : Bytes) (o : Option Plain) (ms : List (Bytes × Plain)) → P k → AllByRecursion P (keys_of ms) → AllByRecursion P (keys_of (member_also k o ms))
-  all_also P k None ms h all = all
-  all_also P k (Some v) ms h all = (h, all)
-
   all_parts : (P : Bytes → Type 0) (ms ps : List (Bytes × Plain)) → AllByRecursion P (keys_of ms) → AllByRecursion P (keys_of (by_parts ms ps))
   all_parts P [] ps all = tt
   all_parts P (m ∷ ms) ps all = all_also P m.0 (keeps m.1 (named ps m.0)) (by_parts ms ps) all.0 (all_parts P ms ps all.1)
-
-  rising_also : (k : Bytes) (o : Option Plain) (ms : List (Bytes × Plain)) → AllAbove k ms → AreRising ms → AreRising (member_also k o ms)
-  unfolding IsStrictlySortedBy
-  rising_also k None ms all up = up
-  rising_also k (Some v) ms all up = (all, up)
 
   rising_parts : (ms ps : List (Bytes × Plain)) → AreRising ms → AreRising (by_parts ms ps)
   unfolding IsStrictlySortedBy
@@ -91,14 +79,14 @@ module _ (keeps : Plain → Part → Option Plain) where
 
   -- what was walked, and what is left to be walked, is all
   pub record Parted (done ms ps all : List (Bytes × Plain)) : Type 0 where
-    pub whole : done ++ by_parts ms ps ≡ all
+    pub adds_up : done ++ by_parts ms ps ≡ all
     pub rising_fields : AreRising ms
     pub rising_parts : AreRising ps
     pub rising_all : AreRising all
     pub normal : are_normal (pairs_of ps) ≡ true
 
   pub parted_start : (ms ps : List (Bytes × Plain)) → AreRising ms → AreRising ps → are_normal (pairs_of ps) ≡ true → Parted [] ms ps (by_parts ms ps)
-  parted_start ms ps up on ok = record { whole = refl; rising_fields = up; rising_parts = on; rising_all = rising_parts ms ps up; normal = ok }
+  parted_start ms ps up on ok = record { adds_up = refl; rising_fields = up; rising_parts = on; rising_all = rising_parts ms ps up; normal = ok }
 
   -- a field that isn't named
   pub parted_less : (done ms ps all rest later : List (Bytes × Plain)) (j k : Bytes) (u v : Plain) (o : Option Plain) → ms ≡ (j, u) ∷ rest → ps ≡ (k, v) ∷ later → text_order j k ≡ Less → o ≡ keeps u nothing
@@ -109,7 +97,7 @@ module _ (keeps : Plain → Part → Option Plain) where
       let none : named ps j ≡ nothing = rw at (named_above j ((k, v) ∷ later) (above_next j (k, v) later below on)) in
       let next : by_parts ms ps ≡ member_also j o (by_parts rest ps) = rw (is, e, none) refl in
       record {
-        whole = put_also_step done (by_parts rest ps) all j o m.rising_all (ap (λ t. done ++ t) (sym next) ∙ m.whole);
+        adds_up = put_also_step done (by_parts rest ps) all j o m.rising_all (ap (λ t. done ++ t) (sym next) ∙ m.adds_up);
         rising_fields = rising_rest (j, u) rest up;
         rising_parts = m.rising_parts;
         rising_all = m.rising_all;
@@ -127,7 +115,7 @@ module _ (keeps : Plain → Part → Option Plain) where
       let same : by_parts ms ps ≡ by_parts ms later = rw (is, at) past in
       let ok : are_normal (pairs_of ((k, v) ∷ later)) ≡ true = rw at at m.normal in
       record {
-        whole = ap (λ t. done ++ t) (sym same) ∙ m.whole;
+        adds_up = ap (λ t. done ++ t) (sym same) ∙ m.adds_up;
         rising_fields = m.rising_fields;
         rising_parts = rising_rest (k, v) later on;
         rising_all = m.rising_all;
@@ -148,7 +136,7 @@ module _ (keeps : Plain → Part → Option Plain) where
       let first : by_parts ms ps ≡ member_also j o (by_parts rest ps) = rw (is, e, here) refl in
       let next : by_parts ms ps ≡ member_also j o (by_parts rest later) = first ∙ ap (λ t. member_also j o (by_parts rest t)) named_is ∙ ap (member_also j o) past in
       record {
-        whole = put_also_step done (by_parts rest later) all j o m.rising_all (ap (λ t. done ++ t) (sym next) ∙ m.whole);
+        adds_up = put_also_step done (by_parts rest later) all j o m.rising_all (ap (λ t. done ++ t) (sym next) ∙ m.adds_up);
         rising_fields = rising_rest (j, u) rest up;
         rising_parts = rising_rest (j, v) later on;
         rising_all = m.rising_all;
@@ -167,7 +155,7 @@ module _ (keeps : Plain → Part → Option Plain) where
       let up : AreRising ((j, u) ∷ rest) = rw is at m.rising_fields in
       let next : by_parts ms ps ≡ member_also j o (by_parts rest ps) = rw (is, at, e) refl in
       record {
-        whole = put_also_step done (by_parts rest ps) all j o m.rising_all (ap (λ t. done ++ t) (sym next) ∙ m.whole);
+        adds_up = put_also_step done (by_parts rest ps) all j o m.rising_all (ap (λ t. done ++ t) (sym next) ∙ m.adds_up);
         rising_fields = rising_rest (j, u) rest up;
         rising_parts = m.rising_parts;
         rising_all = m.rising_all;
@@ -175,15 +163,11 @@ module _ (keeps : Plain → Part → Option Plain) where
       }
 
   pub parted_end : (done ms ps all : List (Bytes × Plain)) → ms ≡ [] → Parted done ms ps all → done ≡ all
-  parted_end done ms ps all is m = sym (append-nil done) ∙ ap (λ t. done ++ by_parts t ps) (sym is) ∙ m.whole
+  parted_end done ms ps all is m = sym (append-nil done) ∙ ap (λ t. done ++ by_parts t ps) (sym is) ∙ m.adds_up
 
 -- ---- what PLUCK keeps
 abbrev pub keeps : Plain → Part → Option Plain
 keeps v p = kept v (pluck_in v) p
-
-also_is : (k : Bytes) (o : Option Plain) (ms : List (Bytes × Plain)) → pairs_of (member_also k o ms) ≡ pair_also k o (pairs_of ms)
-also_is k None ms = refl
-also_is k (Some v) ms = refl
 
 pub plucked_is : (ms ps : List (Bytes × Plain)) → pairs_of (by_parts keeps ms ps) ≡ pluck_pairs (pairs_of ms) (object_of ps ∷ [])
 plucked_is [] ps = refl
@@ -194,7 +178,7 @@ none_kept [] = refl
 none_kept (m ∷ ms) = none_kept ms
 
 pub plucked_end : (done ms all : List (Bytes × Plain)) (ps : List (Bytes × Plain)) → ps ≡ [] → Parted keeps done ms ps all → done ≡ all
-plucked_end done ms all ps is m = sym (append-nil done) ∙ ap (λ t. done ++ t) (sym (none_kept ms)) ∙ ap (λ t. done ++ by_parts keeps ms t) (sym is) ∙ m.whole
+plucked_end done ms all ps is m = sym (append-nil done) ∙ ap (λ t. done ++ t) (sym (none_kept ms)) ∙ ap (λ t. done ++ by_parts keeps ms t) (sym is) ∙ m.adds_up
 
 kept_next : (o : Option Plain) (done : List Plain) (vs : Plains) (all : List Plain) → done ++ listed (item_also o vs) ≡ all → push_also o done ++ listed vs ≡ all
 kept_next None done vs all e = e

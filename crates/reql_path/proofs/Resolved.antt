@@ -55,7 +55,7 @@ abbrev pub resolved_list : List (Bytes × Plain) → List (Bytes × Plain)
 resolved_list [] = []
 resolved_list (m ∷ ms) = member_also m.0 (resolved m.1) (resolved_list ms)
 
-also_is : (k : Bytes) (o : Option Plain) (ms : List (Bytes × Plain)) → pairs_of (member_also k o ms) ≡ pair_also k o (pairs_of ms)
+pub also_is : (k : Bytes) (o : Option Plain) (ms : List (Bytes × Plain)) → pairs_of (member_also k o ms) ≡ pair_also k o (pairs_of ms)
 also_is k None ms = refl
 also_is k (Some v) ms = refl
 
@@ -63,7 +63,7 @@ pub resolved_is : (ms : List (Bytes × Plain)) → pairs_of (resolved_list ms) �
 resolved_is [] = refl
 resolved_is (m ∷ ms) = also_is m.0 (resolved m.1) (resolved_list ms) ∙ ap (pair_also m.0 (resolved m.1)) (resolved_is ms)
 
-all_also : (P : Bytes → Type 0) (k : Bytes) (o : Option Plain) (ms : List (Bytes × Plain)) → P k → AllByRecursion P (keys_of ms) → AllByRecursion P (keys_of (member_also k o ms))
+pub all_also : (P : Bytes → Type 0) (k : Bytes) (o : Option Plain) (ms : List (Bytes × Plain)) → P k → AllByRecursion P (keys_of ms) → AllByRecursion P (keys_of (member_also k o ms))
 all_also P k None ms h all = all
 all_also P k (Some v) ms h all = (h, all)
 
@@ -87,19 +87,19 @@ put_also_step done rest all k (Some v) up is = put_step done rest all k v up is
 
 -- what is resolved, and what is left to be resolved, is all
 pub record Resolves (done ms all : List (Bytes × Plain)) : Type 0 where
-  pub whole : done ++ resolved_list ms ≡ all
+  pub adds_up : done ++ resolved_list ms ≡ all
   pub rising_all : AreRising all
 
 pub resolves_start : (ms : List (Bytes × Plain)) → AreRising ms → Resolves [] ms (resolved_list ms)
-resolves_start ms up = record { whole = refl; rising_all = rising_resolved ms up }
+resolves_start ms up = record { adds_up = refl; rising_all = rising_resolved ms up }
 
 pub resolves_next : (done ms all rest : List (Bytes × Plain)) (k : Bytes) (v : Plain) (o : Option Plain) → ms ≡ (k, v) ∷ rest → o ≡ resolved v → Resolves done ms all → Resolves (put_also k o done) rest all
 resolves_next done ms all rest k v o is e r =
     let next : resolved_list ms ≡ member_also k o (resolved_list rest) = rw (is, e) refl in
     record {
-      whole = put_also_step done (resolved_list rest) all k o r.rising_all (ap (λ t. done ++ t) (sym next) ∙ r.whole);
+      adds_up = put_also_step done (resolved_list rest) all k o r.rising_all (ap (λ t. done ++ t) (sym next) ∙ r.adds_up);
       rising_all = r.rising_all;
     }
 
 pub resolves_end : (done ms all : List (Bytes × Plain)) → ms ≡ [] → Resolves done ms all → done ≡ all
-resolves_end done ms all is r = sym (append-nil done) ∙ ap (λ t. done ++ resolved_list t) (sym is) ∙ r.whole
+resolves_end done ms all is r = sym (append-nil done) ∙ ap (λ t. done ++ resolved_list t) (sym is) ∙ r.adds_up

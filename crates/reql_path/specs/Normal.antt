@@ -5,7 +5,7 @@ use Rattle.reql_datum.specs.declared.datum.Datum.{Datum}
 use Rattle.reql_datum.specs.View.{plain}
 use Rattle.reql_datum.specs.Plain.{Plain, object, Pairs, no_pairs, pair}
 use Rattle.reql_rules.specs.Lists.{Bytes, array_of, object_of}
-use Rattle.reql_rules.specs.Patterns.{is_true, is_pattern, Part, whole, inside, pluck_pairs, without_pairs, unless_literal, literal_or}
+use Rattle.reql_rules.specs.Patterns.{is_true, is_pattern, Part, whole, inside, pluck_pairs, without_pairs, unless_literal, literal_or, pluck, without}
 
 -- a document that may be there, behind a reference
 abbrev pub seen : Option (Bor Datum) → Option Plain
@@ -55,3 +55,10 @@ item_left v ps = v
 -- the object of these members as the one pattern of a list
 abbrev pub one_of : List (Bytes × Plain) → List Plain
 one_of ms = object_of ms ∷ []
+
+-- r is what patterns name of an object, and the object without it
+abbrev pub IsPlucked : List Plain → List (Bytes × Plain) → List (Bytes × Plain) → Type 0
+IsPlucked ps ms r = object_of r ≡ pluck ps (object_of ms)
+
+abbrev pub IsWithout : List Plain → List (Bytes × Plain) → List (Bytes × Plain) → Type 0
+IsWithout ps ms r = object_of r ≡ without ps (object_of ms)

@@ -2,9 +2,8 @@
 ghost use Rattle.std.specs.Prelude.{◌≡◌, ◌∷◌, [], ◌||◌, IfOk, option_map, true};
 ghost use Rattle.reql_datum.specs.Plain.{items_of, pairs_of};
 ghost use Rattle.reql_datum.specs.View.{plain};
-ghost use Rattle.reql_rules.specs.Lists.{object_of};
-ghost use Rattle.reql_rules.specs.Patterns.{is_true, left, without, without_in, without_items, without_pairs, literal_or};
-ghost use Rattle.reql_path.specs.Normal.{is_normal, are_normal, member_part, item_left, one_of, IfArray};
+ghost use Rattle.reql_rules.specs.Patterns.{is_true, left, without_in, without_items, without_pairs, literal_or};
+ghost use Rattle.reql_path.specs.Normal.{is_normal, are_normal, member_part, item_left, one_of, IfArray, IsWithout};
 
 use crate::building::{put_also, put_copy};
 use crate::pattern::Pattern;
@@ -17,8 +16,8 @@ use std::cmp::Ordering;
 ///
 /// It walks the object and what the pattern names once, and shares whatever it keeps whole.
 pub fn without(alloc: Global, o: &Fields, p: &Pattern) -> Result<Fields, Memory>
-    ensures one { IfOk result (λ r. object_of r ≡ without (p.now ∷ []) (object_of o.now)) }
-    ensures several { IfArray p.now (λ ps. IfOk result (λ r. object_of r ≡ without ps (object_of o.now))) }
+    ensures one { IfOk result (IsWithout (p.now ∷ []) o.now) }
+    ensures several { IfArray p.now (λ ps. IfOk result (IsWithout ps o.now)) }
 {
     left(alloc, o, &p.parts)
 }

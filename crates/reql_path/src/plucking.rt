@@ -2,9 +2,8 @@
 ghost use Rattle.std.specs.Prelude.{◌≡◌, ◌∷◌, [], ◌||◌, IfOk, option_map, true};
 ghost use Rattle.reql_datum.specs.Plain.{items_of, pairs_of, object};
 ghost use Rattle.reql_datum.specs.View.{plain};
-ghost use Rattle.reql_rules.specs.Lists.{object_of};
-ghost use Rattle.reql_rules.specs.Patterns.{is_true, kept, pluck, pluck_in, pluck_items, pluck_pairs, unless_literal};
-ghost use Rattle.reql_path.specs.Normal.{is_normal, are_normal, member_part, item_kept, one_of, IfArray};
+ghost use Rattle.reql_rules.specs.Patterns.{is_true, kept, pluck_in, pluck_items, pluck_pairs, unless_literal};
+ghost use Rattle.reql_path.specs.Normal.{is_normal, are_normal, member_part, item_kept, one_of, IfArray, IsPlucked};
 
 use crate::building::{push_also, put_also};
 use crate::pattern::Pattern;
@@ -17,8 +16,8 @@ use std::cmp::Ordering;
 ///
 /// It walks the object and what the pattern names once, and shares whatever it keeps whole.
 pub fn pluck(alloc: Global, o: &Fields, p: &Pattern) -> Result<Fields, Memory>
-    ensures one { IfOk result (λ r. object_of r ≡ pluck (p.now ∷ []) (object_of o.now)) }
-    ensures several { IfArray p.now (λ ps. IfOk result (λ r. object_of r ≡ pluck ps (object_of o.now))) }
+    ensures one { IfOk result (IsPlucked (p.now ∷ []) o.now) }
+    ensures several { IfArray p.now (λ ps. IfOk result (IsPlucked ps o.now)) }
 {
     plucked(alloc, o, &p.parts)
 }
