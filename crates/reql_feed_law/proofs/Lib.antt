@@ -1,0 +1,14 @@
+pub mod Readback
+pub mod Folds
+pub mod Points
+pub mod Contributions
+pub mod Nets
+pub mod Histories
+pub mod LimitFolds
+pub mod LimitHistories
+pub mod Owed
+pub mod Putting
+pub mod Moving
+pub mod Worked
+pub mod Watched
+pub mod Keeping

@@ -1,0 +1,15 @@
+pub mod Items
+pub mod Shown
+pub mod Value
+pub mod Fold
+pub mod Net
+pub mod Moves
+pub mod Follows
+pub mod History
+pub mod Laws
+pub mod Feeds
+pub mod Folds
+pub mod Moving
+pub mod Worked
+pub mod Watched
+pub mod Kept
