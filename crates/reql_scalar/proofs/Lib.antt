@@ -1,0 +1,7 @@
+pub mod Told
+mod Firsts
+mod Takes
+mod Among
+mod Written
+mod Two
+mod Texts

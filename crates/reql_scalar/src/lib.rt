@@ -1,0 +1,18 @@
+//! Arithmetic, comparisons, edits of arrays, sets and coercion of documents.
+#![tactic(auto)]
+
+mod adding;
+mod coercing;
+mod digits;
+mod editing;
+mod numbers;
+mod parts;
+mod relating;
+mod sets;
+mod wanted;
+
+pub use adding::arith;
+pub use coercing::coerce;
+pub use editing::edit;
+pub use relating::relate;
+pub use sets::set;
