@@ -1,0 +1,4 @@
+pub mod Seen
+pub mod Tables
+pub mod Called
+pub mod Counted

@@ -1,0 +1,133 @@
+// Elements counted, and single ones taken, without reading the others of a slice.
+ghost use Rattle.std.specs.Prelude.{◌≡◌, Ok, IfOk, length, option_map, slice_get};
+ghost use Rattle.reql_datum.specs.Outcome.{Gives};
+ghost use Rattle.reql_datum.specs.View.{plain};
+ghost use Rattle.reql_value.specs.Sequences.{count_elements as count_elements_of};
+ghost use Rattle.reql_apply.specs.Counted.{element};
+ghost use Rattle.reql_apply.specs.Seen.{meant, documents_at, documents_of_view};
+ghost use Rattle.reql_apply.specs.Tables.{view, seen};
+
+use crate::reading::to_sequence;
+use crate::value::Value;
+use crate::world::{Viewed, World, table_at};
+use reql_datum::{Datum, Fault, Items, Memory};
+use reql_term::{Range, TableView, ViewFault};
+use std::alloc::Global;
+
+fn count_in_table<V: TableView>(table: &Viewed<V>, range: &Range) -> Result<u64, Fault>
+    ensures { Gives (λ n. n) result (Ok (length
+        (documents_of_view range.now (Ok (view V.documents V.indexes V.entries table.now))))) }
+{
+    match table.view.count_between(range) {
+        Ok(count) => Ok(count),
+        Err(ViewFault::IndexMissing) => Ok(0),
+        Err(ViewFault::Memory) => Err(Fault::Memory),
+    }
+}
+
+fn count_range<V: TableView>(
+    alloc: Global,
+    world: &World<V>,
+    slot: u32,
+    range: &Range,
+) -> Result<u64, Fault>
+    ensures { Gives (λ n. n) result (Ok (length
+        (documents_at (seen V.documents V.indexes V.entries world.now) slot range.now))) }
+{
+    match table_at(alloc, world, slot) {
+        Ok(table) => count_in_table(table, range),
+        Err(Fault::Memory) => Err(Fault::Memory),
+        Err(_) => Ok(0),
+    }
+}
+
+/// How many elements a sequence has. A slice of a table isn't read for it.
+pub fn count_elements<V: TableView>(
+    alloc: Global,
+    value: &Value,
+    world: &World<V>,
+) -> Result<u64, Fault>
+    ensures { Gives (λ n. n) result
+        (count_elements_of (seen V.documents V.indexes V.entries world.now)
+        (meant (seen V.documents V.indexes V.entries world.now) value.now)) }
+{
+    match value {
+        Value::Unread {
+            slot,
+            slice: _,
+            range,
+        } => count_range(alloc, world, *slot, range),
+        _ => {
+            let items = to_sequence(alloc, value, world)?;
+            Ok(items.len() as u64)
+        }
+    }
+}
+
+fn copy_at(items: &Items, place: usize) -> Result<Option<Datum>, Memory>
+    ensures { IfOk result (λ d. option_map plain d ≡ slice_get items.now place) }
+{
+    match items.at(place) {
+        Some(d) => Ok(Some(d.copy()?)),
+        None => Ok(None),
+    }
+}
+
+#[tactic(auto, using(crate::proofs::Parts::first_of_part))]
+fn take_in_table<V: TableView>(
+    alloc: Global,
+    table: &Viewed<V>,
+    range: &Range,
+    place: usize,
+) -> Result<Option<Datum>, Fault>
+    ensures { Gives (option_map plain) result (Ok (slice_get
+        (documents_of_view range.now (Ok (view V.documents V.indexes V.entries table.now)))
+        place)) }
+{
+    match table.view.part(alloc, range, place, 1) {
+        Ok(items) => Ok(copy_at(&items, 0)?),
+        Err(ViewFault::IndexMissing) => Ok(None),
+        Err(ViewFault::Memory) => Err(Fault::Memory),
+    }
+}
+
+fn take_in_range<V: TableView>(
+    alloc: Global,
+    world: &World<V>,
+    slot: u32,
+    range: &Range,
+    place: usize,
+) -> Result<Option<Datum>, Fault>
+    ensures { Gives (option_map plain) result (Ok (slice_get
+        (documents_at (seen V.documents V.indexes V.entries world.now) slot range.now) place)) }
+{
+    match table_at(alloc, world, slot) {
+        Ok(table) => take_in_table(alloc, table, range, place),
+        Err(Fault::Memory) => Err(Fault::Memory),
+        Err(_) => Ok(None),
+    }
+}
+
+/// The element at a place of a sequence. Of a slice of a table no other is read for it.
+pub fn element_at<V: TableView>(
+    alloc: Global,
+    value: &Value,
+    world: &World<V>,
+    place: usize,
+) -> Result<Option<Datum>, Fault>
+    ensures { Gives (option_map plain) result
+        (element (seen V.documents V.indexes V.entries world.now) place
+        (meant (seen V.documents V.indexes V.entries world.now) value.now)) }
+{
+    match value {
+        Value::Unread {
+            slot,
+            slice: _,
+            range,
+        } => take_in_range(alloc, world, *slot, range, place),
+        _ => {
+            let items = to_sequence(alloc, value, world)?;
+            Ok(copy_at(&items, place)?)
+        }
+    }
+}
