@@ -1,0 +1,3 @@
+pub mod Sorts
+mod Cuts
+mod Summing

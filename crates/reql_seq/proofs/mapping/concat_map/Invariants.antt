@@ -1,0 +1,12 @@
+use Rattle.std.proofs.Common.{◌≡◌, ◌++◌, ◌-◌, length, drop, Ok}
+use Rattle.reql_datum.specs.Answer.{Answer, ◌>>=◌}
+use Rattle.reql_datum.specs.Called.{Means}
+use Rattle.reql_datum.specs.Plain.{Plain}
+use Rattle.reql_rules.specs.Mapping.{concat_all}
+use Rattle.reql_seq.proofs.mapping.concat_map.Given as goal
+
+abbrev pub invariant-loop-item : goal.invariant-loop-item
+invariant-loop-item g l = (m : Plain → Answer Plain) → Means g.F.Fn l.f m → concat_all m l.list ≡ (concat_all m (drop l.place l.list) >>= λ vs. Ok (l.all ++ vs))
+
+abbrev pub decreases-loop-item : goal.decreases-loop-item
+decreases-loop-item g l = length l.list - l.place
