@@ -18,7 +18,8 @@ pub(crate) fn put_copy(fields: &mut Fields, name: &Name, value: &Datum) -> Resul
 
 /// Puts a value at a name, where there is one.
 pub(crate) fn put_also(fields: &mut Fields, name: &Name, value: Option<Datum>) -> Result<(), Memory>
-    ensures { IfOk result (λ _. fields.new ≡ put_also name.now (option_map plain value) fields.old) }
+    ensures { IfOk result (λ _. fields.new ≡ put_also name.now (option_map plain value)
+        fields.old) }
 {
     let Some(value) = value else {
         return Ok(());

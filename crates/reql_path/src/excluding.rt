@@ -62,7 +62,8 @@ fn left(alloc: Global, o: &Fields, parts: &Fields) -> Result<Fields, Memory>
 #[tactic(auto, using(crate::proofs::Parts::named_parts))]
 fn left_of_field(alloc: Global, value: &Datum, part: &Datum) -> Result<Option<Datum>, Memory>
     requires { (is_true (plain part.now) || is_normal (plain part.now)) ≡ true }
-    ensures { IfOk result (λ r. option_map plain r ≡ left (plain value.now) (without_in (plain value.now)) (member_part (plain part.now))) }
+    ensures { IfOk result (λ r. option_map plain r
+        ≡ left (plain value.now) (without_in (plain value.now)) (member_part (plain part.now))) }
 {
     match part {
         Datum::Obj(parts) => {
@@ -92,7 +93,8 @@ fn left_inside(alloc: Global, value: &Datum, parts: &Fields) -> Result<Datum, Me
 #[cycle(exclude)]
 fn left_of_object(alloc: Global, o: &Fields, parts: &Fields) -> Result<Datum, Memory>
     requires { are_normal (pairs_of parts.now) ≡ true }
-    ensures { IfOk result (λ r. plain r ≡ literal_or (pairs_of o.now) (without_pairs (pairs_of o.now) (one_of parts.now))) }
+    ensures { IfOk result (λ r. plain r ≡ literal_or (pairs_of o.now)
+        (without_pairs (pairs_of o.now) (one_of parts.now))) }
 {
     if o.is_literal() {
         let literal = o.copy()?;
@@ -106,7 +108,8 @@ fn left_of_object(alloc: Global, o: &Fields, parts: &Fields) -> Result<Datum, Me
 #[tactic(auto, using(reql_datum::proofs::Walks::walks))]
 fn left_of_items(alloc: Global, items: &Items, parts: &Fields) -> Result<Items, Memory>
     requires { are_normal (pairs_of parts.now) ≡ true }
-    ensures { IfOk result (λ r. items_of r ≡ without_items (items_of items.now) (one_of parts.now)) }
+    ensures { IfOk result (λ r. items_of r ≡ without_items (items_of items.now)
+        (one_of parts.now)) }
 {
     let mut rest = Items::with_room(alloc, items.len())?;
     let mut place = 0;

@@ -31,8 +31,10 @@ fn with_one_more(patterns: Items, more: &Datum) -> Result<Wanted, Memory>
 // What is named of a field that a further pattern goes into.
 #[tactic(auto, using(crate::proofs::Gathered::deeper))]
 fn inside_also(alloc: Global, old: Option<Wanted>, more: &Datum) -> Result<Wanted, Memory>
-    ensures part { IfOk result (λ w. wanted_part w ≡ both (part_there old) (inside (plain more.now ∷ []))) }
-    ensures bound { IfOk result (λ w. reach w ≤ max (reach_there old) (suc (suc (depth (plain more.now))))) }
+    ensures part { IfOk result (λ w. wanted_part w ≡ both (part_there old)
+        (inside (plain more.now ∷ []))) }
+    ensures bound { IfOk result (λ w. reach w ≤ max (reach_there old)
+        (suc (suc (depth (plain more.now))))) }
 {
     match old {
         Some(Wanted::Whole) => Ok(Wanted::Whole),
@@ -48,7 +50,8 @@ fn add_inside(
     name: &Name,
     pattern: &Datum,
 ) -> Result<(), Memory>
-    ensures { IfOk result (λ _. Gathers named.old.entries named.new.entries (only name.now (inside (plain pattern.now ∷ []))) (suc (depth (plain pattern.now)))) }
+    ensures { IfOk result (λ _. Gathers named.old.entries named.new.entries
+        (only name.now (inside (plain pattern.now ∷ []))) (suc (depth (plain pattern.now)))) }
 {
     let old = named.remove(name);
     let wanted = inside_also(alloc, old, pattern)?;
@@ -59,7 +62,8 @@ fn add_inside(
 
 // A name that is wanted whole.
 fn add_whole(named: &mut BTreeMap<Name, Wanted>, name: &Name) -> Result<(), Memory>
-    ensures { IfOk result (λ _. Gathers named.old.entries named.new.entries (only name.now whole) 0) }
+    ensures { IfOk result (λ _. Gathers named.old.entries named.new.entries (only name.now whole)
+        0) }
 {
     let key = name.copy()?;
     drop(named.insert(key, Wanted::Whole)?);
@@ -73,7 +77,8 @@ fn add_field(
     name: &Name,
     pattern: &Datum,
 ) -> Result<(), Memory>
-    ensures { IfOk result (λ _. GathersMember named.old.entries named.new.entries name.now (plain pattern.now)) }
+    ensures { IfOk result (λ _. GathersMember named.old.entries named.new.entries name.now
+        (plain pattern.now)) }
 {
     if is_true(pattern) {
         return add_whole(named, name);
@@ -99,7 +104,8 @@ fn add_fields(
 #[cycle(add)]
 #[tactic(auto, using(reql_datum::proofs::Walks::walks))]
 fn add(alloc: Global, named: &mut BTreeMap<Name, Wanted>, pattern: &Datum) -> Result<(), Memory>
-    ensures { IfOk result (λ _. GathersPattern named.old.entries named.new.entries (plain pattern.now)) }
+    ensures { IfOk result (λ _. GathersPattern named.old.entries named.new.entries
+        (plain pattern.now)) }
 {
     match pattern {
         Datum::Text(name) => add_whole(named, name),

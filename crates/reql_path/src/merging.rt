@@ -111,7 +111,8 @@ fn merged_object(alloc: Global, old: Option<&Datum>, new: &Fields) -> Result<Opt
 #[tactic(auto, using(reql_datum::proofs::Walks::walks, reql_datum::proofs::Back::back))]
 fn merged_onto(alloc: Global, old: &Fields, new: &Fields) -> Result<Option<Datum>, Memory>
     requires { is_literal (pairs_of new.now) ≡ false }
-    ensures { IfOk result (λ r. option_map plain r ≡ merged (object_of new.now) (Some (object_of old.now))) }
+    ensures { IfOk result (λ r. option_map plain r
+        ≡ merged (object_of new.now) (Some (object_of old.now))) }
 {
     if old.is_literal() {
         return resolved_object(alloc, new);

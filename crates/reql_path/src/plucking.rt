@@ -57,7 +57,8 @@ fn plucked(alloc: Global, o: &Fields, parts: &Fields) -> Result<Fields, Memory>
 #[tactic(auto, using(crate::proofs::Parts::named_parts))]
 fn plucked_field(alloc: Global, value: &Datum, part: &Datum) -> Result<Option<Datum>, Memory>
     requires { (is_true (plain part.now) || is_normal (plain part.now)) ≡ true }
-    ensures { IfOk result (λ r. option_map plain r ≡ kept (plain value.now) (pluck_in (plain value.now)) (member_part (plain part.now))) }
+    ensures { IfOk result (λ r. option_map plain r
+        ≡ kept (plain value.now) (pluck_in (plain value.now)) (member_part (plain part.now))) }
 {
     match part {
         Datum::Obj(parts) => plucked_in(alloc, value, parts),
@@ -68,7 +69,8 @@ fn plucked_field(alloc: Global, value: &Datum, part: &Datum) -> Result<Option<Da
 #[cycle(pluck)]
 fn plucked_in(alloc: Global, value: &Datum, parts: &Fields) -> Result<Option<Datum>, Memory>
     requires { are_normal (pairs_of parts.now) ≡ true }
-    ensures { IfOk result (λ r. option_map plain r ≡ pluck_in (plain value.now) (one_of parts.now)) }
+    ensures { IfOk result (λ r. option_map plain r
+        ≡ pluck_in (plain value.now) (one_of parts.now)) }
 {
     match value {
         Datum::Obj(fields) => plucked_object(alloc, fields, parts),
@@ -84,7 +86,8 @@ fn plucked_in(alloc: Global, value: &Datum, parts: &Fields) -> Result<Option<Dat
 #[cycle(pluck)]
 fn plucked_object(alloc: Global, o: &Fields, parts: &Fields) -> Result<Option<Datum>, Memory>
     requires { are_normal (pairs_of parts.now) ≡ true }
-    ensures { IfOk result (λ r. option_map plain r ≡ unless_literal (pairs_of o.now) (pluck_pairs (pairs_of o.now) (one_of parts.now))) }
+    ensures { IfOk result (λ r. option_map plain r
+        ≡ unless_literal (pairs_of o.now) (pluck_pairs (pairs_of o.now) (one_of parts.now))) }
 {
     if o.is_literal() {
         return Ok(None);
@@ -112,7 +115,8 @@ fn plucked_items(alloc: Global, items: &Items, parts: &Fields) -> Result<Items, 
 #[cycle(pluck)]
 fn plucked_item(alloc: Global, item: &Datum, parts: &Fields) -> Result<Option<Datum>, Memory>
     requires { are_normal (pairs_of parts.now) ≡ true }
-    ensures { IfOk result (λ r. option_map plain r ≡ item_kept (plain item.now) (one_of parts.now)) }
+    ensures { IfOk result (λ r. option_map plain r
+        ≡ item_kept (plain item.now) (one_of parts.now)) }
 {
     match item {
         Datum::Obj(fields) => plucked_object(alloc, fields, parts),
