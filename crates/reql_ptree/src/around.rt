@@ -38,7 +38,8 @@ pub(crate) fn way_to<'a, L>(
     at: bool,
     steps: &mut Steps<L>,
 ) -> Around<'a>
-    ensures way { IsWay (plain key.now) at side.now.0 (pairs_in result.below) [] (pairs_in result.above) side.now.1 0 result.passed }
+    ensures way { IsWay (plain key.now) at side.now.0 (pairs_in result.below) []
+        (pairs_in result.above) side.now.1 0 result.passed }
     ensures counted { steps.new ≤ steps.old + side.now.1 }
 {
     let _facts = side.len();

@@ -60,7 +60,8 @@ pub(crate) fn chunk_of(alloc: Global, key: &Datum, value: &Datum) -> Result<Chun
 // Writes over the value at a place, and gives the old one.
 pub(crate) fn set_value(all: &mut Vec<Pair>, place: usize, value: Datum) -> Datum
     requires in_range { place < length all.old.items }
-    ensures pairs { (k : Plain) → IsHitBy order (keys_of (map pair all.old.items)) k place → map pair all.new.items ≡ put k (plain value) (map pair all.old.items) }
+    ensures pairs { (k : Plain) → IsHitBy order (keys_of (map pair all.old.items)) k place
+        → map pair all.new.items ≡ put k (plain value) (map pair all.old.items) }
     ensures length { length all.new.items ≡ length all.old.items }
 {
     let pair = &mut all[place];
@@ -79,7 +80,8 @@ fn put_at(
     requires hit { IfOk place (IsHitBy order (keys_of (map pair pairs.now)) (plain key.now)) }
     requires gap { IfErr place (IsGapBy order (keys_of (map pair pairs.now)) (plain key.now)) }
     requires in_range { IsSearchInRange place (length pairs.now) }
-    ensures pairs { IfOk result (λ all. map pair all.items ≡ put (plain key.now) (plain value.now) (map pair pairs.now)) }
+    ensures pairs { IfOk result (λ all. map pair all.items
+        ≡ put (plain key.now) (plain value.now) (map pair pairs.now)) }
     ensures length { IfOk result (λ all. length all.items ≤ length pairs.now + 1) }
     ensures some { IfOk result (λ all. 0 < length all.items) }
 {
@@ -148,7 +150,8 @@ pub(crate) fn chunk_put<L>(
     value: &Datum,
     steps: &mut Steps<L>,
 ) -> Result<Halves, Memory>
-    ensures pairs { IfOk result (λ parts. halves parts ≡ put (plain key.now) (plain value.now) chunk.now) }
+    ensures pairs { IfOk result (λ parts. halves parts
+        ≡ put (plain key.now) (plain value.now) chunk.now) }
     ensures counted { steps.new ≤ steps.old + 4 }
 {
     let pairs = chunk.pairs();
@@ -164,7 +167,8 @@ pub(crate) fn chunk_put<L>(
 // The pairs without the one at a place.
 fn without_at(alloc: Global, pairs: &[Pair], place: usize) -> Result<Vec<Pair>, Memory>
     requires in_range { place < length pairs.now }
-    ensures pairs { IfOk result (λ rest. (k : Plain) → IsHitBy order (keys_of (map pair pairs.now)) k place → map pair rest.items ≡ without k (map pair pairs.now)) }
+    ensures pairs { IfOk result (λ rest. (k : Plain) → IsHitBy order (keys_of (map pair pairs.now))
+        k place → map pair rest.items ≡ without k (map pair pairs.now)) }
     ensures length { IfOk result (λ rest. length rest.items ≤ length pairs.now) }
 {
     let mut rest = copied(alloc, pairs)?;

@@ -41,7 +41,7 @@ fn is_own_side(side: &Side) -> bool {
 }
 
 // Makes the node one that no other side shares.
-fn own_side(alloc: Global, side: &mut Side) -> Result<(), Memory>
+pub(crate) fn own_side(alloc: Global, side: &mut Side) -> Result<(), Memory>
     ensures { side.new ≡ side.old }
 {
     if is_own_side(side) {
@@ -53,7 +53,7 @@ fn own_side(alloc: Global, side: &mut Side) -> Result<(), Memory>
 }
 
 // Makes the pairs such that no other chunk shares them, with room for one more.
-fn own_chunk(alloc: Global, chunk: &mut Chunk) -> Result<(), Memory>
+pub(crate) fn own_chunk(alloc: Global, chunk: &mut Chunk) -> Result<(), Memory>
     ensures { chunk.new ≡ chunk.old }
 {
     if Arc::strong_count(&chunk.held) == 1 {
@@ -70,7 +70,9 @@ fn set_at(first: &Datum, all: &mut Vec<Pair>, place: usize, key: &Datum, value: 
     requires held { IsHeld (plain first.now) (map pair all.old.items) }
     requires hit { IsHitBy order (keys_of (map pair all.old.items)) (plain key.now) place }
     requires in_range { place < length all.old.items }
-    ensures pairs { map pair all.new.items ≡ (if result then put (plain key.now) (plain value.now) (map pair all.old.items) else map pair all.old.items) }
+    ensures pairs { map pair all.new.items ≡ (if result
+        then put (plain key.now) (plain value.now) (map pair all.old.items)
+        else map pair all.old.items) }
     ensures held { IsHeld (plain first.now) (map pair all.new.items) }
 {
     let Ok(value) = value.copy() else {
@@ -83,7 +85,8 @@ fn set_at(first: &Datum, all: &mut Vec<Pair>, place: usize, key: &Datum, value: 
 fn set_in(chunk: &mut Chunk, place: usize, key: &Datum, value: &Datum) -> bool
     requires hit { IsHitBy order (keys_of chunk.old) (plain key.now) place }
     requires in_range { place < length chunk.old }
-    ensures { chunk.new ≡ (if result then put (plain key.now) (plain value.now) chunk.old else chunk.old) }
+    ensures { chunk.new ≡ (if result then put (plain key.now) (plain value.now) chunk.old
+        else chunk.old) }
 {
     match Arc::get_mut(&mut chunk.held) {
         None => false,
@@ -103,7 +106,9 @@ fn pair_of(key: &Datum, value: &Datum) -> Result<Pair, Memory>
 fn insert_pair(all: &mut Vec<Pair>, place: usize, key: &Datum, value: &Datum) -> bool
     requires gap { IsGapBy order (keys_of (map pair all.old.items)) (plain key.now) place }
     requires in_range { place ≤ length all.old.items }
-    ensures pairs { map pair all.new.items ≡ (if result then put (plain key.now) (plain value.now) (map pair all.old.items) else map pair all.old.items) }
+    ensures pairs { map pair all.new.items ≡ (if result
+        then put (plain key.now) (plain value.now) (map pair all.old.items)
+        else map pair all.old.items) }
     ensures length { length all.new.items ≤ length all.old.items + 1 }
     ensures some { length all.old.items ≤ length all.new.items }
 {
@@ -127,7 +132,9 @@ fn insert_at(
     requires held { IsHeld (plain first.old) (map pair all.old.items) }
     requires gap { IsGapBy order (keys_of (map pair all.old.items)) (plain key.now) place }
     requires in_range { place ≤ length all.old.items }
-    ensures pairs { map pair all.new.items ≡ (if result then put (plain key.now) (plain value.now) (map pair all.old.items) else map pair all.old.items) }
+    ensures pairs { map pair all.new.items ≡ (if result
+        then put (plain key.now) (plain value.now) (map pair all.old.items)
+        else map pair all.old.items) }
     ensures held { IsHeld (plain first.new) (map pair all.new.items) }
 {
     if all.len() >= MOST {
@@ -149,7 +156,8 @@ fn insert_at(
 fn insert_in(chunk: &mut Chunk, place: usize, key: &Datum, value: &Datum) -> bool
     requires gap { IsGapBy order (keys_of chunk.old) (plain key.now) place }
     requires in_range { place ≤ length chunk.old }
-    ensures { chunk.new ≡ (if result then put (plain key.now) (plain value.now) chunk.old else chunk.old) }
+    ensures { chunk.new ≡ (if result then put (plain key.now) (plain value.now) chunk.old
+        else chunk.old) }
 {
     match Arc::get_mut(&mut chunk.held) {
         None => false,
@@ -164,7 +172,8 @@ fn chunk_try<L>(
     value: &Datum,
     steps: &mut Steps<L>,
 ) -> bool
-    ensures pairs { chunk.new ≡ (if result then put (plain key.now) (plain value.now) chunk.old else chunk.old) }
+    ensures pairs { chunk.new ≡ (if result then put (plain key.now) (plain value.now) chunk.old
+        else chunk.old) }
     ensures counted { steps.new ≤ steps.old + 4 }
 {
     if let Err(_) = own_chunk(alloc, chunk) {
@@ -184,7 +193,8 @@ fn chunk_put_in<L>(
     value: &Datum,
     steps: &mut Steps<L>,
 ) -> bool
-    ensures pairs { chunk.new ≡ (if result then put (plain key.now) (plain value.now) chunk.old else chunk.old) }
+    ensures pairs { chunk.new ≡ (if result then put (plain key.now) (plain value.now) chunk.old
+        else chunk.old) }
     ensures chunk { IsChunk chunk.new }
     ensures counted { steps.new ≤ steps.old + 4 }
 {
@@ -194,7 +204,7 @@ fn chunk_put_in<L>(
 }
 
 // A size where a part of it becomes another.
-fn resized(size: u64, before: u64, after: u64) -> u64
+pub(crate) fn resized(size: u64, before: u64, after: u64) -> u64
     requires part { before ≤ size }
     requires fits { size - before + after < 2 ^ 64 }
     ensures { result ≡ size - before + after }
@@ -211,7 +221,8 @@ pub(crate) fn side_put_in<L>(
     value: &Datum,
     steps: &mut Steps<L>,
 ) -> bool
-    ensures pairs { side.new.0 ≡ (if result then put (plain key.now) (plain value.now) side.old.0 else side.old.0) }
+    ensures pairs { side.new.0 ≡ (if result then put (plain key.now) (plain value.now) side.old.0
+        else side.old.0) }
     ensures height { side.new.1 ≡ side.old.1 }
     ensures counted { steps.new ≤ steps.old + (2 * side.old.1 + 4) }
 {
@@ -260,7 +271,8 @@ pub(crate) fn top_put<L>(
     value: &Datum,
     steps: &mut Steps<L>,
 ) -> Result<(), Memory>
-    ensures pairs { top.new.0 ≡ (if is_ok result then put (plain key.now) (plain value.now) top.old.0 else top.old.0) }
+    ensures pairs { top.new.0 ≡ (if is_ok result then put (plain key.now) (plain value.now)
+        top.old.0 else top.old.0) }
     ensures counted { steps.new ≤ steps.old + (6 * tall (length top.old.0) + 6) }
 {
     if top.height() > 0 {

@@ -10,6 +10,7 @@ mod look;
 mod put;
 mod range;
 mod remove;
+mod remove_in_place;
 mod seek;
 mod side;
 mod steps;

@@ -89,7 +89,8 @@ fn give_falling(out: &mut Items, part: &[Pair], most: u64) -> Result<(), Memory>
 
 fn give_part(out: &mut Items, part: &[Pair], falling: bool, most: u64) -> Result<(), Memory>
     requires room { length out.old ≤ most }
-    ensures { IfOk result (λ _. out.new ≡ take most (out.old ++ given falling (map pair part.now))) }
+    ensures { IfOk result (λ _. out.new ≡ take most
+        (out.old ++ given falling (map pair part.now))) }
 {
     if falling {
         return give_falling(out, part, most);
@@ -101,7 +102,8 @@ fn give_part(out: &mut Items, part: &[Pair], falling: bool, most: u64) -> Result
 fn low_place<L>(low: Option<Cut<'_>>, pairs: &[Pair], steps: &mut Steps<L>) -> usize
     requires rising { AreRising (map pair pairs.now) }
     ensures from { IsFrom (option_map cut_seen low.entry) (map pair pairs.now) result }
-    ensures counted { steps.new ≤ steps.old + search_for (option_map cut_seen low.entry) (length pairs.now) }
+    ensures counted { steps.new ≤ steps.old + search_for (option_map cut_seen low.entry)
+        (length pairs.now) }
 {
     match low {
         None => 0,
@@ -114,7 +116,8 @@ fn high_place<L>(high: Option<Cut<'_>>, pairs: &[Pair], steps: &mut Steps<L>) ->
     requires rising { AreRising (map pair pairs.now) }
     ensures in_range { result ≤ length pairs.now }
     ensures to { IsTo (option_map cut_seen high.entry) (map pair pairs.now) result }
-    ensures counted { steps.new ≤ steps.old + search_for (option_map cut_seen high.entry) (length pairs.now) }
+    ensures counted { steps.new ≤ steps.old + search_for (option_map cut_seen high.entry)
+        (length pairs.now) }
 {
     match high {
         None => pairs.len(),
@@ -166,8 +169,10 @@ pub(crate) fn gather<L>(
     requires rising { AreRising (pairs_in waiting ++ side.now.0) }
     requires room { length out.old < range.now.most }
     requires opens { Waits range.now (pairs_in waiting) }
-    ensures values { IfOk result (λ _. Gives range.now (pairs_in waiting.entry ++ side.now.0) out.old out.new) }
-    ensures counted { Spends range.now (pairs_in waiting.entry) side.now.0 side.now.1 out.old steps.old steps.new }
+    ensures values { IfOk result (λ _. Gives range.now (pairs_in waiting.entry ++ side.now.0)
+        out.old out.new) }
+    ensures counted { Spends range.now (pairs_in waiting.entry) side.now.0 side.now.1 out.old
+        steps.old steps.new }
 {
     let Some(node) = side.node() else {
         return gather_chunk(waiting, range, out, steps);
@@ -210,7 +215,9 @@ pub(crate) fn range_in<L>(
     steps: &mut Steps<L>,
 ) -> Result<Items, Memory>
     ensures values { IfOk result (λ items. Gives range.now side.now.0 [] items) }
-    ensures counted { steps.new ≤ steps.old + (2 * tall (length side.now.0) + min range.now.most (length (between (option_map cut_seen range.now.low) (option_map cut_seen range.now.high) side.now.0))) }
+    ensures counted { steps.new ≤ steps.old + (2 * tall (length side.now.0) + min range.now.most
+        (length (between (option_map cut_seen range.now.low) (option_map cut_seen range.now.high)
+        side.now.0))) }
 {
     let _facts = side.height();
     let mut out = Items::new(alloc);

@@ -13,6 +13,7 @@ use crate::look::{count_in, next_in, prev_in, value_in};
 use crate::put::side_put;
 use crate::range::{Cut, Range, range_in};
 use crate::remove::side_remove;
+use crate::remove_in_place::top_remove;
 use crate::side::Side;
 use crate::steps::Steps;
 use reql_datum::{Datum, Items, Memory, Refused};
@@ -108,7 +109,8 @@ impl Tree {
         value: Datum,
         steps: &mut Steps<L>,
     ) -> Result<(), Refused<(Datum, Datum)>>
-        ensures pairs { self.new ≡ (if is_ok result then put (plain key) (plain value) self.old else self.old) }
+        ensures pairs { self.new ≡ (if is_ok result then put (plain key) (plain value) self.old
+            else self.old) }
         ensures back { IfErr result (λ refused. refused.back ≡ (key, value)) }
         ensures counted { steps.new ≤ steps.old + (6 * tall (length self.old) + 6) }
     {
@@ -129,6 +131,16 @@ impl Tree {
             alloc: self.alloc,
             top,
         })
+    }
+
+    /// Leaves out a key, in place where nobody shares the tree. Refused for want of memory, the tree
+    /// is as it was.
+    pub fn remove_own<L>(&mut self, key: &Datum, steps: &mut Steps<L>) -> Result<(), Memory>
+        ensures pairs { self.new ≡ (if is_ok result then without (plain key.now) self.old
+            else self.old) }
+        ensures counted { steps.new ≤ steps.old + (6 * tall (length self.old) + 6) }
+    {
+        top_remove(self.alloc, &mut self.top, key, steps)
     }
 
     /// The pair of the first key at or above this one, the key itself left out if `past`.
@@ -174,8 +186,10 @@ impl Tree {
         high_open: bool,
         steps: &mut Steps<L>,
     ) -> Result<Items, Memory>
-        ensures values { IfOk result (λ items. items ≡ range_of (plain low.now) low_open (plain high.now) high_open self.now) }
-        ensures counted { steps.new ≤ steps.old + (2 * tall (length self.now) + length (range_of (plain low.now) low_open (plain high.now) high_open self.now)) }
+        ensures values { IfOk result (λ items. items ≡ range_of (plain low.now) low_open
+            (plain high.now) high_open self.now) }
+        ensures counted { steps.new ≤ steps.old + (2 * tall (length self.now) + length
+            (range_of (plain low.now) low_open (plain high.now) high_open self.now)) }
     {
         let range = Range {
             low: Some(Cut {
@@ -202,8 +216,10 @@ impl Tree {
         most: u64,
         steps: &mut Steps<L>,
     ) -> Result<Items, Memory>
-        ensures values { IfOk result (λ items. items ≡ take most (range_of (plain low.now) low_open (plain high.now) high_open self.now)) }
-        ensures counted { steps.new ≤ steps.old + (2 * tall (length self.now) + length (take most (range_of (plain low.now) low_open (plain high.now) high_open self.now))) }
+        ensures values { IfOk result (λ items. items ≡ take most
+            (range_of (plain low.now) low_open (plain high.now) high_open self.now)) }
+        ensures counted { steps.new ≤ steps.old + (2 * tall (length self.now) + length
+            (take most (range_of (plain low.now) low_open (plain high.now) high_open self.now))) }
     {
         let range = Range {
             low: Some(Cut {
@@ -230,8 +246,10 @@ impl Tree {
         most: u64,
         steps: &mut Steps<L>,
     ) -> Result<Items, Memory>
-        ensures values { IfOk result (λ items. items ≡ take most (reverse (range_of (plain low.now) low_open (plain high.now) high_open self.now))) }
-        ensures counted { steps.new ≤ steps.old + (2 * tall (length self.now) + length (take most (range_of (plain low.now) low_open (plain high.now) high_open self.now))) }
+        ensures values { IfOk result (λ items. items ≡ take most
+            (reverse (range_of (plain low.now) low_open (plain high.now) high_open self.now))) }
+        ensures counted { steps.new ≤ steps.old + (2 * tall (length self.now) + length
+            (take most (range_of (plain low.now) low_open (plain high.now) high_open self.now))) }
     {
         let range = Range {
             low: Some(Cut {
