@@ -1,8 +1,4 @@
 // Documents with LITERALs, which have no JSON.
-ghost use Rattle.std.specs.Prelude.{length, ◌-◌};
-ghost use Rattle.reql_datum.specs.Plain.{weight, list_weight, members_weight};
-ghost use Rattle.reql_datum.specs.View.{plain};
-
 use reql_datum::{Datum, Fields, Items, Memory, Name};
 use std::alloc::Global;
 
@@ -18,17 +14,30 @@ fn literal(alloc: Global, value: Datum) -> Result<Datum, Memory> {
     Ok(Datum::Obj(fields))
 }
 
+// A LITERAL in the place of an object of the one name `literal`.
+fn unveiled(alloc: Global, fields: Fields) -> Result<Datum, Memory> {
+    if fields.len() != 1 {
+        return Ok(Datum::Obj(fields));
+    }
+    match fields.get("literal") {
+        Some(value) => literal(alloc, value.copy()?),
+        None => Ok(Datum::Obj(fields)),
+    }
+}
+
 /// A document in which each object of the one name `literal` has become a LITERAL.
 #[cycle(marked)]
+#[tactic(auto, using(reql_datum::proofs::Walks::walks))]
 pub(crate) fn marked(alloc: Global, document: &Datum) -> Result<Datum, Memory> {
     match document {
         Datum::List(items) => Ok(Datum::List(marked_items(alloc, items)?)),
-        Datum::Obj(fields) => marked_object(alloc, fields),
+        Datum::Obj(fields) => unveiled(alloc, marked_fields(alloc, fields)?),
         _ => document.copy(),
     }
 }
 
 #[cycle(marked)]
+#[tactic(auto, using(reql_datum::proofs::Walks::walks))]
 fn marked_items(alloc: Global, items: &Items) -> Result<Items, Memory> {
     let mut done = Items::new(alloc);
     let mut place = 0;
@@ -40,16 +49,7 @@ fn marked_items(alloc: Global, items: &Items) -> Result<Items, Memory> {
 }
 
 #[cycle(marked)]
-fn marked_object(alloc: Global, fields: &Fields) -> Result<Datum, Memory> {
-    if fields.len() == 1 {
-        if let Some(value) = fields.get("literal") {
-            return literal(alloc, marked(alloc, value)?);
-        }
-    }
-    Ok(Datum::Obj(marked_fields(alloc, fields)?))
-}
-
-#[cycle(marked)]
+#[tactic(auto, using(reql_datum::proofs::Walks::walks))]
 fn marked_fields(alloc: Global, fields: &Fields) -> Result<Fields, Memory> {
     let mut done = Fields::new(alloc);
     let mut place = 0;
