@@ -10,7 +10,7 @@ use Rattle.reql_rules.specs.declared.words.Total.{Total}
 use Rattle.reql_value.specs.Called.{answer_key}
 use Rattle.reql_value.specs.Meant.{Meant, grouped, Given, Calls, Gives, meant_of}
 use Rattle.reql_value.specs.Orders.{table_source}
-use Rattle.reql_value.specs.Wanted.{wrong, as_sequence, text_option}
+use Rattle.reql_value.specs.Wanted.{wrong, as_sequence, index_text}
 use Rattle.reql_value.specs.World.{World}
 
 -- the value of one key, or the array of the values of several
@@ -32,7 +32,7 @@ group_in w calls m (k ∷ ks) ds i = group_all (group_value calls k ks) ds
 abbrev pub group_rule : Gives (List (Plain × Plain))
 group_rule w calls (s ∷ ks) opts = do
   ds ← as_sequence w s
-  i ← text_option (codes "index") opts
+  i ← index_text opts
   group_in w calls (meant_of s) ks ds i
 group_rule w calls [] opts = Err misplaced
 

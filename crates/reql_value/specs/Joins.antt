@@ -1,5 +1,5 @@
 -- INNER_JOIN, OUTER_JOIN, EQ_JOIN and ZIP (ReQL API reference: innerJoin, outerJoin, eqJoin, zip).
-use Rattle.std.specs.Prelude.{List, [], ◌∷◌, Bool, Err, codes}
+use Rattle.std.specs.Prelude.{List, [], ◌∷◌, Bool, Err}
 use Rattle.reql_datum.specs.Answer.{◌>>=◌}
 use Rattle.reql_datum.specs.Plain.{Plain}
 use Rattle.reql_term.specs.Views.{Entry, all_of}
@@ -7,9 +7,8 @@ use Rattle.reql_rules.specs.Faults.{misplaced}
 use Rattle.reql_rules.specs.Joining.{join_all, eq_join_all, zip_all}
 use Rattle.reql_value.specs.Called.{answer_key, answer_two}
 use Rattle.reql_value.specs.Meant.{Gives}
-use Rattle.reql_value.specs.Tables.{index_or_key}
-use Rattle.reql_value.specs.Wanted.{as_sequence, as_table, text_option}
-use Rattle.reql_value.specs.World.{entries_named}
+use Rattle.reql_value.specs.Tables.{entries_by}
+use Rattle.reql_value.specs.Wanted.{as_sequence, as_table, index_text}
 
 abbrev pub join_rule : Bool → Gives (List Plain)
 join_rule outer w calls (s ∷ t ∷ f ∷ []) opts = do
@@ -26,8 +25,8 @@ abbrev pub eq_join : Gives (List Plain)
 eq_join w calls (s ∷ k ∷ t ∷ []) opts = do
   ls ← as_sequence w s
   v ← as_table w t
-  i ← text_option (codes "index") opts
-  es ← entries_named v.1 (index_or_key v.1 i)
+  i ← index_text opts
+  es ← entries_by v.1 i
   eq_join_all (answer_key calls k) (having es) ls
 eq_join w calls gs opts = Err misplaced
 

@@ -11,7 +11,7 @@ use Rattle.reql_rules.specs.Sorting.{Keyed, keys_from, keyed_order, elements, or
 use Rattle.reql_value.specs.Called.{answer_key}
 use Rattle.reql_value.specs.Meant.{bounded, Kind, slice_between, slice_in_order, some_rows, Meant, stream, selection, table, Given, directed as with_direction, Calls, Rule, meant_of}
 use Rattle.reql_value.specs.Sequenced.{like, in_order}
-use Rattle.reql_value.specs.Wanted.{as_sequence, text_option, value_in, accepted}
+use Rattle.reql_value.specs.Wanted.{as_sequence, index_text, value_in, accepted}
 use Rattle.reql_value.specs.World.{World, view_at, entries_named}
 
 -- a slice of a table between bounds of the same index, by this index; with its slot
@@ -100,6 +100,6 @@ distinct_in w m ds (Some name) = do
 abbrev pub distinct_rule : Rule
 distinct_rule w calls (s ∷ []) opts = do
   ds ← as_sequence w s
-  i ← text_option (codes "index") opts
+  i ← index_text opts
   distinct_in w (meant_of s) ds i
 distinct_rule w calls gs opts = Err misplaced

@@ -9,13 +9,13 @@ use Rattle.reql_datum.specs.Order.{order}
 use Rattle.reql_datum.specs.Kinds.{is_storable, type_name}
 use Rattle.reql_datum.specs.Plain.{Plain, text}
 use Rattle.reql_memory.specs.Sorted.{find_by}
-use Rattle.reql_term.specs.Views.{Index, documents_in, all_of}
+use Rattle.reql_term.specs.Views.{Entry, Index, documents_in, all_of}
 use Rattle.reql_rules.specs.Admin.{About, db_info, db_config, table_info, table_config, table_status, index_status, type_info}
 use Rattle.reql_rules.specs.Faults.{misplaced, not_a_key, no_index}
 use Rattle.reql_rules.specs.Types.{is_null}
 use Rattle.reql_rules.specs.Lists.{Bytes, each}
 use Rattle.reql_value.specs.Meant.{Bounds, bounded, slice_between, some_rows, Meant, selection, row, table, database, Gives, Rule, name_of, meant_of}
-use Rattle.reql_value.specs.Wanted.{wrong, as_datum, as_data, as_text, as_table, text_option, left_is_open, right_is_open, value_in}
+use Rattle.reql_value.specs.Wanted.{wrong, as_datum, as_data, as_text, as_table, index_text, left_is_open, right_is_open, value_in}
 use Rattle.reql_value.specs.World.{World, View, view_at, entries_named}
 
 abbrev pub key_if : (Plain → Bool) → Plain → Answer Plain
@@ -29,8 +29,12 @@ get_rule w calls (t ∷ k ∷ []) opts = do
   Ok (row v.0 key (find_by order key v.1.documents))
 get_rule w calls gs opts = Err misplaced
 
+-- the index that is named, or the primary order
 abbrev pub index_or_key : View → Option Bytes → Bytes
 index_or_key v i = unwrap_or i v.key
+
+abbrev pub entries_by : View → Option Bytes → Answer (List Entry)
+entries_by v i = entries_named v (index_or_key v i)
 
 -- what can't be stored is no key; what is no key otherwise finds nothing
 abbrev pub get_all_rule : Rule
@@ -38,8 +42,8 @@ get_all_rule w calls (t ∷ ks) opts = do
   v ← as_table w t
   ds ← as_data ks
   keys ← each (key_if is_storable) ds
-  i ← text_option (codes "index") opts
-  es ← entries_named v.1 (index_or_key v.1 i)
+  i ← index_text opts
+  es ← entries_by v.1 i
   Ok (selection v.0 some_rows (all_of keys es))
 get_all_rule w calls [] opts = Err misplaced
 
@@ -53,10 +57,10 @@ between_rule w calls (t ∷ l ∷ h ∷ []) opts = do
   e ← as_datum h
   low ← key_if may_bound d
   high ← key_if may_bound e
-  i ← text_option (codes "index") opts
+  i ← index_text opts
   low_open ← left_is_open opts
   high_open ← right_is_open opts
-  es ← entries_named v.1 (index_or_key v.1 i)
+  es ← entries_by v.1 i
   let b : Bounds = record { index = index_or_key v.1 i; low = low; low_open = low_open; high = high; high_open = high_open } in
       Ok (selection v.0 (slice_between b) (documents_in (bounded b es)))
 between_rule w calls gs opts = Err misplaced

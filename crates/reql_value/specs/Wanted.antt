@@ -87,6 +87,9 @@ text_given name (Some g) = accepted name (option_and_then text_in (seen g))
 abbrev pub text_option : Bytes → Options → Answer (Option Bytes)
 text_option name opts = text_given name (find name opts)
 
+abbrev pub index_text : Options → Answer (Option Bytes)
+index_text opts = text_option (codes "index") opts
+
 abbrev pub boundness : Bytes → Bool → Option Bytes → Answer Bool
 boundness name usual None = Ok usual
 boundness name usual (Some s) = if same_text s (codes "open") then Ok true else (if same_text s (codes "closed") then Ok false else Err (bad_option name))
