@@ -203,7 +203,7 @@ module _ (P : ℕ → Type 0) (w v : World) (agree : Agree P w v) where
   funcall_in calls (f ∷ gs) opts k h = then_each (In P) (as_data gs) (λ ds. answer calls f ds) (λ ds. answer_in calls k f h.0 ds)
 
   coerced_same : (m : Meant) → In P m → (to : Bytes) → coerced w m to ≡ coerced v m to
-  coerced_same (table n) h to = rw (sequence_same (table n) h) refl
+  coerced_same (table n) h to = rw (agree.views n h) refl
   coerced_same m h to = refl
 
   coerce_same : SameRule coerce_to

@@ -10,8 +10,8 @@ use Rattle.reql_rules.specs.Faults.{cannot_coerce, unshowable, misplaced}
 use Rattle.reql_rules.specs.Types.{same_text}
 use Rattle.reql_rules.specs.Lists.{Bytes, array_of}
 use Rattle.reql_value.specs.World.{World}
-use Rattle.reql_value.specs.Meant.{Meant, one, stream, selection, row, table, Gives, name_of, meant_of}
-use Rattle.reql_value.specs.Wanted.{as_text, to_sequence}
+use Rattle.reql_value.specs.Meant.{Meant, one, row, Gives, name_of, meant_of}
+use Rattle.reql_value.specs.Wanted.{as_text, by_rows}
 
 -- the JSON text of a value that may be shown
 abbrev pub written : Option Bytes → Answer Plain
@@ -32,15 +32,12 @@ datum_coerced kind d to = if same_text to (codes "string") then to_string kind d
 
 -- a sequence gives an array alone
 abbrev pub sequence_coerced : World → Meant → Bytes → Answer Plain
-sequence_coerced w m to = if same_text to (codes "array") then (to_sequence w m >>= λ ds. Ok (array_of ds)) else Err (cannot_coerce (name_of m) to)
+sequence_coerced w m to = if same_text to (codes "array") then by_rows w array_of (Err (cannot_coerce (name_of m) to)) m else Err (cannot_coerce (name_of m) to)
 
 abbrev pub coerced : World → Meant → Bytes → Answer Plain
 coerced w (one d) to = datum_coerced (name_of (one d)) d to
 coerced w (row n k d) to = datum_coerced (name_of (row n k d)) (unwrap_or d null) to
-coerced w (stream ds) to = sequence_coerced w (stream ds) to
-coerced w (selection n k ds) to = sequence_coerced w (selection n k ds) to
-coerced w (table n) to = sequence_coerced w (table n) to
-coerced w m to = Err (cannot_coerce (name_of m) to)
+coerced w m to = sequence_coerced w m to
 
 abbrev pub coerce_to : Gives Plain
 coerce_to w calls (g ∷ t ∷ []) opts = do

@@ -14,10 +14,10 @@ use Rattle.reql_rules.specs.Objects.{keys, values, object_by}
 use Rattle.reql_rules.specs.Patterns.{as_pattern, has_fields, pluck}
 use Rattle.reql_rules.specs.Places.{nth}
 use Rattle.reql_value.specs.Called.{answer}
-use Rattle.reql_value.specs.Meant.{Meant, one, stream, selection, row, table, Given, Calls, Gives, Rule, is_nothing, meant_of}
+use Rattle.reql_value.specs.Meant.{Meant, one, row, Given, Calls, Gives, Rule, is_nothing, meant_of}
 use Rattle.reql_value.specs.Sequenced.{like, datum}
-use Rattle.reql_value.specs.Wanted.{wrong, to_object, as_datum, as_text, as_object, as_sequence, as_number, value_in}
-use Rattle.reql_value.specs.World.{World, view_at, documents_of}
+use Rattle.reql_value.specs.Wanted.{wrong, by_rows, to_object, as_datum, as_text, as_object, as_sequence, as_number, value_in}
+use Rattle.reql_value.specs.World.{World}
 
 -- what fields are taken of: an object, or each element of a sequence
 pub data Subject : Type 0 where
@@ -32,10 +32,7 @@ datum_subject m d = Err (wrong (codes "OBJECT") m)
 abbrev pub subject_of : World → Meant → Answer Subject
 subject_of w (one d) = datum_subject (one d) d
 subject_of w (row n k d) = datum_subject (row n k d) (unwrap_or d null)
-subject_of w (stream ds) = Ok (elements ds)
-subject_of w (selection n k ds) = Ok (elements ds)
-subject_of w (table n) = view_at w n >>= λ v. Ok (elements (documents_of v))
-subject_of w m = Err (wrong (codes "OBJECT") m)
+subject_of w m = by_rows w elements (Err (wrong (codes "OBJECT") m)) m
 
 abbrev pub subject : World → Given → Answer Subject
 subject w g = subject_of w (meant_of g)

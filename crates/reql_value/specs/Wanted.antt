@@ -26,12 +26,16 @@ value_in m = None
 abbrev pub to_datum : Meant → Answer Plain
 to_datum m = wanted (wrong (codes "DATUM") m) (datum_in m)
 
+-- what is made of the elements of a sequence that is no array, or of what is none
+abbrev pub by_rows : {A : Type 0} → World → (List Plain → A) → Answer A → Meant → Answer A
+by_rows w f other (stream ds) = Ok (f ds)
+by_rows w f other (selection n k ds) = Ok (f ds)
+by_rows w f other (table n) = view_at w n >>= λ v. Ok (f (documents_of v))
+by_rows w f other m = other
+
 abbrev pub to_sequence : World → Meant → Answer (List Plain)
 to_sequence w (one d) = wanted (wrong (codes "SEQUENCE") (one d)) (items_in d)
-to_sequence w (stream ds) = Ok ds
-to_sequence w (selection n k ds) = Ok ds
-to_sequence w (table n) = view_at w n >>= λ v. Ok (documents_of v)
-to_sequence w m = Err (wrong (codes "SEQUENCE") m)
+to_sequence w m = by_rows w (λ ds. ds) (Err (wrong (codes "SEQUENCE") m)) m
 
 -- a table, with its slot
 abbrev pub to_table : World → Meant → Answer (ℕ × View)
