@@ -59,80 +59,80 @@ module _ {K I : Type 0} where
 
 -- One act of a user on a table, seen without its reply.
 module _ {D J W N P M X K I F : Type 0} (m : Feeding D J W N P M X K I F) where
-  abbrev T0 : Type 0
-  T0 = Table D J K I
+  abbrev Stood : Type 0
+  Stood = Table D J K I
 
-  abbrev Entries0 : Type 0
-  Entries0 = List (Recorded (Order (Cmd W N P)))
+  abbrev Recordings : Type 0
+  Recordings = List (Recorded (Order (Cmd W N P)))
 
-  abbrev A0 : Type 0
-  A0 = Act (Order (Cmd W N P)) (Reply (Said M I)) (Unit {0}) (Look (D × J))
+  abbrev Deed : Type 0
+  Deed = Act (Order (Cmd W N P)) (Reply (Said M I)) (Unit {0}) (Look (D × J))
 
-  abbrev machine0 : Machine T0 (Order (Cmd W N P)) (Reply (Said M I)) (Unit {0}) (Look (D × J))
-  machine0 = table_machine m
+  abbrev stood_machine : Machine Stood (Order (Cmd W N P)) (Reply (Said M I)) (Unit {0}) (Look (D × J))
+  stood_machine = table_machine m
 
-  module _ (ends : Entries0 → Type 0) (by : ℕ) where
+  module _ (ends : Recordings → Type 0) (by : ℕ) where
     -- one act, seen without its reply
-    pub record After (t : T0) (at stood : ℕ) (acts : List A0) (history : Entries0) (cmd : Cmd W N P) (reply : Reply (Said M I)) : Type 0 where
-      pub others : Entries0
-      pub rest : Entries0
+    pub record After (t : Stood) (at stood : ℕ) (acts : List Deed) (history : Recordings) (cmd : Cmd W N P) (reply : Reply (Said M I)) : Type 0 where
+      pub others : Recordings
+      pub rest : Recordings
       pub place : ℕ
       pub theirs : own by others ≡ []
-      pub entry : Entries0
+      pub entry : Recordings
       pub shape : history ≡ (others ++ entry) ++ rest
-      pub leads : replay machine0 (replay machine0 t others) entry ≡ after_cmd m (replay machine0 t others) by cmd
+      pub leads : replay stood_machine (replay stood_machine t others) entry ≡ after_cmd m (replay stood_machine t others) by cmd
       pub stands : stood ≡ at + length others
-      pub answered : reply ≡ reply_to_cmd m (replay machine0 t others) by cmd
-      pub woven : WovenTo machine0 ends (after_cmd m (replay machine0 t others) by cmd) by place acts rest
-      pub changes : changes_from m t history ≡ (changes_from m t others ++ changes_at m (replay machine0 t others) by cmd) ++ changes_from m (after_cmd m (replay machine0 t others) by cmd) rest
+      pub answered : reply ≡ reply_to_cmd m (replay stood_machine t others) by cmd
+      pub woven : WovenTo stood_machine ends (after_cmd m (replay stood_machine t others) by cmd) by place acts rest
+      pub changes : changes_from m t history ≡ (changes_from m t others ++ changes_at m (replay stood_machine t others) by cmd) ++ changes_from m (after_cmd m (replay stood_machine t others) by cmd) rest
 
-    pub record Idle (t : T0) (acts : List A0) (history : Entries0) : Type 0 where
-      pub others : Entries0
-      pub rest : Entries0
+    pub record Idle (t : Stood) (acts : List Deed) (history : Recordings) : Type 0 where
+      pub others : Recordings
+      pub rest : Recordings
       pub place : ℕ
       pub theirs : own by others ≡ []
-      pub woven : WovenTo machine0 ends (replay machine0 t others) by place acts rest
-      pub changes : changes_from m t history ≡ changes_from m t others ++ changes_from m (replay machine0 t others) rest
+      pub woven : WovenTo stood_machine ends (replay stood_machine t others) by place acts rest
+      pub changes : changes_from m t history ≡ changes_from m t others ++ changes_from m (replay stood_machine t others) rest
 
-    entry_after : (s : T0) (order : Order (Cmd W N P)) → replay machine0 s (cond (adds m (answer m s by order.cmd)) (noted by order ∷ []) []) ≡ after_cmd m s by order.cmd
-    entry_after s order = split (adds m (answer m s by order.cmd)) (λ b. adds m (answer m s by order.cmd) ≡ b → replay machine0 s (cond b (noted by order ∷ []) []) ≡ after_cmd m s by order.cmd)
+    entry_after : (s : Stood) (order : Order (Cmd W N P)) → replay stood_machine s (cond (adds m (answer m s by order.cmd)) (noted by order ∷ []) []) ≡ after_cmd m s by order.cmd
+    entry_after s order = split (adds m (answer m s by order.cmd)) (λ b. adds m (answer m s by order.cmd) ≡ b → replay stood_machine s (cond b (noted by order ∷ []) []) ≡ after_cmd m s by order.cmd)
         (λ _ e. refl) (λ _ e. sym (ap (λ b. cond b (one_more m (effect m s by order.cmd)) s) e)) refl
 
-    entry_changes : (s : T0) (order : Order (Cmd W N P)) → changes_from m s (cond (adds m (answer m s by order.cmd)) (noted by order ∷ []) []) ≡ changes_at m s by order.cmd
+    entry_changes : (s : Stood) (order : Order (Cmd W N P)) → changes_from m s (cond (adds m (answer m s by order.cmd)) (noted by order ∷ []) []) ≡ changes_at m s by order.cmd
     entry_changes s order = split (adds m (answer m s by order.cmd)) (λ b. adds m (answer m s by order.cmd) ≡ b → changes_from m s (cond b (noted by order ∷ []) []) ≡ changes_at m s by order.cmd)
         (λ _ e. append-nil (changes_at m s by order.cmd)) (λ _ e. sym (ap (λ b. cond b (changes_by m s order.cmd) []) e)) refl
 
-    pub ran : (t : T0) (at place : ℕ) (order : Order (Cmd W N P)) (reply : Reply (Said M I)) (acts : List A0) (history : Entries0) → WovenTo machine0 ends t by at (Ran place order reply ∷ acts) history → After t at place acts history order.cmd reply
+    pub ran : (t : Stood) (at place : ℕ) (order : Order (Cmd W N P)) (reply : Reply (Said M I)) (acts : List Deed) (history : Recordings) → WovenTo stood_machine ends t by at (Ran place order reply ∷ acts) history → After t at place acts history order.cmd reply
     ran t at place order reply acts history w =
-        let s : T0 = replay machine0 t w.0 in
-        let same : entries_of machine0 by (Ran place order reply) ≡ cond (adds m (answer m s by order.cmd)) (noted by order ∷ []) [] = ap (λ (r : Reply (Said M I)). cond (adds m r.said) (noted by order ∷ []) []) w.5 in
-        let added : Entries0 = cond (adds m (answer m s by order.cmd)) (noted by order ∷ []) [] in
+        let s : Stood = replay stood_machine t w.0 in
+        let same : entries_of stood_machine by (Ran place order reply) ≡ cond (adds m (answer m s by order.cmd)) (noted by order ∷ []) [] = ap (λ (r : Reply (Said M I)). cond (adds m r.said) (noted by order ∷ []) []) w.5 in
+        let added : Recordings = cond (adds m (answer m s by order.cmd)) (noted by order ∷ []) [] in
         record {
           others = w.0;
           rest = w.1;
-          place = at + length (w.0 ++ entries_of machine0 by (Ran place order reply));
+          place = at + length (w.0 ++ entries_of stood_machine by (Ran place order reply));
           theirs = w.3;
           answered = w.5;
           entry = added;
           shape = w.2 ∙ ap (λ z. (w.0 ++ z) ++ w.1) same;
           leads = entry_after s order;
           stands = w.4;
-          woven = subst (λ z. WovenTo machine0 ends z by (at + length (w.0 ++ entries_of machine0 by (Ran place order reply))) acts w.1)
-              (ap (λ z. replay machine0 t (w.0 ++ z)) same ∙ replay_append machine0 t w.0 added ∙ entry_after s order) w.6;
+          woven = subst (λ z. WovenTo stood_machine ends z by (at + length (w.0 ++ entries_of stood_machine by (Ran place order reply))) acts w.1)
+              (ap (λ z. replay stood_machine t (w.0 ++ z)) same ∙ replay_append stood_machine t w.0 added ∙ entry_after s order) w.6;
           changes = ap (λ z. changes_from m t z) (w.2 ∙ ap (λ z. (w.0 ++ z) ++ w.1) same ∙ append_assoc w.0 added w.1) ∙ changes_append m t w.0 (added ++ w.1)
               ∙ ap (λ z. changes_from m t w.0 ++ z) (changes_append m s added w.1 ∙ (λ i. entry_changes s order i ++ changes_from m (entry_after s order i) w.1))
               ∙ sym (append_assoc (changes_from m t w.0) (changes_at m s by order.cmd) (changes_from m (after_cmd m s by order.cmd) w.1));
         }
 
-    pub idle : (t : T0) (at : ℕ) (a : A0) (acts : List A0) (history : Entries0) → entries_of machine0 by a ≡ [] → WovenTo machine0 ends t by at (a ∷ acts) history → Idle t acts history
+    pub idle : (t : Stood) (at : ℕ) (a : Deed) (acts : List Deed) (history : Recordings) → entries_of stood_machine by a ≡ [] → WovenTo stood_machine ends t by at (a ∷ acts) history → Idle t acts history
     idle t at a acts history none w =
-        let e : w.0 ++ entries_of machine0 by a ≡ w.0 = ap (λ z. w.0 ++ z) none ∙ append-nil w.0 in
+        let e : w.0 ++ entries_of stood_machine by a ≡ w.0 = ap (λ z. w.0 ++ z) none ∙ append-nil w.0 in
         record {
           others = w.0;
           rest = w.1;
-          place = at + length (w.0 ++ entries_of machine0 by a);
+          place = at + length (w.0 ++ entries_of stood_machine by a);
           theirs = w.3;
-          woven = subst (λ z. WovenTo machine0 ends (replay machine0 t z) by (at + length (w.0 ++ entries_of machine0 by a)) acts w.1) e w.6;
+          woven = subst (λ z. WovenTo stood_machine ends (replay stood_machine t z) by (at + length (w.0 ++ entries_of stood_machine by a)) acts w.1) e w.6;
           changes = ap (λ z. changes_from m t z) (w.2 ∙ ap (λ z. z ++ w.1) e) ∙ changes_append m t w.0 w.1;
         }
 
@@ -246,14 +246,14 @@ module _ {D J W N P M X K I F : Type 0} (m : Feeding D J W N P M X K I F) (good 
   abbrev Entries : Type 0
   Entries = List (Recorded (Order (Cmd W N P)))
 
-  abbrev A1 : Type 0
-  A1 = Act (Order (Cmd W N P)) (Reply (Said M I)) (Unit {0}) (Look (D × J))
+  abbrev Performed : Type 0
+  Performed = Act (Order (Cmd W N P)) (Reply (Said M I)) (Unit {0}) (Look (D × J))
 
   -- where nothing up to a stamp is to come, all that is given later is above it
   abbrev above_of : ℕ → Feed K I → List X → Type 0
   above_of at = IsAbove m good may l k d n at
 
-  abbrev Later : ℕ → List A1 → Type 0
+  abbrev Later : ℕ → List Performed → Type 0
   Later at acts = (history : Entries) (place : ℕ) (t : T) (xs : List X) → WovenTo machine ends t by place acts history → Tracked m good may l (above_of at) by number k d n xs t → Above at (given (takings number acts))
 
   record Passed (at max : ℕ) (t : T) (xs : List X) (s : Said M I) : Type 0 where
@@ -280,10 +280,10 @@ module _ {D J W N P M X K I F : Type 0} (m : Feeding D J W N P M X K I F) (good 
       (λ _. record { above = tt; next = same }) (λ _. record { above = tt; next = same })
 
   -- the Takes of a command and of the acts after it
-  abbrev after_it : Cmd W N P → Reply (Said M I) → List A1 → List (Taking M I)
+  abbrev after_it : Cmd W N P → Reply (Said M I) → List Performed → List (Taking M I)
   after_it cmd reply acts = cond (is_end number cmd) [] (taking_by number cmd reply ++ takings number acts)
 
-  later_cmd : (at : ℕ) (acts : List A1) → Later at acts → (cmd : Cmd W N P) (rest : Entries) (place : ℕ) (t : T) (xs : List X) → WovenTo machine ends (after_cmd m t by cmd) by place acts rest → Tracked m good may l (above_of at) by number k d n xs t →
+  later_cmd : (at : ℕ) (acts : List Performed) → Later at acts → (cmd : Cmd W N P) (rest : Entries) (place : ℕ) (t : T) (xs : List X) → WovenTo machine ends (after_cmd m t by cmd) by place acts rest → Tracked m good may l (above_of at) by number k d n xs t →
       Above at (given (after_it cmd (reply_to_cmd m t by cmd) acts))
   later_cmd at acts ih (cmds.Write w) rest place t xs v r = ih rest place _ _ v (tracked_step m good may l (above_of at) by number k d n (above_on m good may l k d n at) xs t by (cmds.Write w) tt r)
   later_cmd at acts ih (cmds.Index w) rest place t xs v r = ih rest place _ _ v (tracked_step m good may l (above_of at) by number k d n (above_on m good may l k d n at) xs t by (cmds.Index w) tt r)
@@ -302,7 +302,7 @@ module _ {D J W N P M X K I F : Type 0} (m : Feeding D J W N P M X K I F) (good 
       (ih rest place (after_cmd m t by (takes_it max)) (more xs t max (answer m t by (takes_it max))) (subst (λ z. WovenTo machine ends (after_cmd m t by (cmds.Take z max)) by place acts rest) q v) p.next))
       (λ e. ih rest place _ _ v (tracked_step m good may l (above_of at) by number k d n (above_on m good may l k d n at) xs t by (cmds.Take feed max) (λ _ q. both_ways (nat_eq feed number) e (eq-eqb feed number q)) r))
 
-  later : (at : ℕ) (acts : List A1) → Later at acts
+  later : (at : ℕ) (acts : List Performed) → Later at acts
   later at [] history place t xs w r = tt
   later at (Ran p order reply ∷ acts) history place t xs w r =
       let a : After m ends by t place p acts history order.cmd reply = ran m ends by t place p order reply acts history w in
@@ -316,21 +316,21 @@ module _ {D J W N P M X K I F : Type 0} (m : Feeding D J W N P M X K I F) (good 
       later at acts a.rest a.place (replay machine t a.others) _ a.woven (tracked_others m good may l (above_of at) by number k d n (above_on m good may l k d n at) xs t a.others a.theirs r)
 
   -- the law, from any moment on
-  abbrev Folded : ℕ → List A1 → Type 0
+  abbrev Folded : ℕ → List Performed → Type 0
   Folded at acts = (history : Entries) (place : ℕ) (t : T) (xs : List X) (g sent unsent : List (ℕ × I)) → WovenTo machine ends t by place acts history → Tracked m good may l (H g) by number k d n xs t →
       sent ++ unsent ≡ given (takings number acts) → Whole (m.squashes k) at (takings number acts) sent → fold m k (m.value k d) (bare m (upto at (g ++ sent))) ≡ m.value k (changed m d (take (at - n) (xs ++ changes_from m t history)))
 
-  abbrev FoldedAfter : ℕ → List A1 → Cmd W N P → Type 0
+  abbrev FoldedAfter : ℕ → List Performed → Cmd W N P → Type 0
   FoldedAfter at acts cmd = (rest : Entries) (place : ℕ) (t : T) (xs : List X) (g sent unsent : List (ℕ × I)) → WovenTo machine ends (after_cmd m t by cmd) by place acts rest → Tracked m good may l (H g) by number k d n xs t →
       sent ++ unsent ≡ given (after_it cmd (reply_to_cmd m t by cmd) acts) → Whole (m.squashes k) at (after_it cmd (reply_to_cmd m t by cmd) acts) sent →
       fold m k (m.value k d) (bare m (upto at (g ++ sent))) ≡ m.value k (changed m d (take (at - n) ((xs ++ changes_at m t by cmd) ++ changes_from m (after_cmd m t by cmd) rest)))
 
-  leaving : (at : ℕ) (acts : List A1) → Folded at acts → (cmd : Cmd W N P) → Leaves by number by cmd → (rest : Entries) (place : ℕ) (t : T) (xs : List X) (g sent unsent : List (ℕ × I)) → WovenTo machine ends (after_cmd m t by cmd) by place acts rest → Tracked m good may l (H g) by number k d n xs t →
+  leaving : (at : ℕ) (acts : List Performed) → Folded at acts → (cmd : Cmd W N P) → Leaves by number by cmd → (rest : Entries) (place : ℕ) (t : T) (xs : List X) (g sent unsent : List (ℕ × I)) → WovenTo machine ends (after_cmd m t by cmd) by place acts rest → Tracked m good may l (H g) by number k d n xs t →
       sent ++ unsent ≡ given (takings number acts) → Whole (m.squashes k) at (takings number acts) sent →
       fold m k (m.value k d) (bare m (upto at (g ++ sent))) ≡ m.value k (changed m d (take (at - n) ((xs ++ changes_at m t by cmd) ++ changes_from m (after_cmd m t by cmd) rest)))
   leaving at acts ih cmd v rest place t xs g sent unsent w r e h = ih rest place (after_cmd m t by cmd) (xs ++ changes_at m t by cmd) g sent unsent w (tracked_step m good may l (H g) by number k d n (holds_on m good may l k d n g) xs t by cmd v r) e h
 
-  taking : (at : ℕ) → n ≤ at → (acts : List A1) → Folded at acts → (max : ℕ) (rest : Entries) (place : ℕ) (t : T) (xs : List X) (g sent unsent : List (ℕ × I)) → WovenTo machine ends (after_cmd m t by (takes_it max)) by place acts rest → Tracked m good may l (H g) by number k d n xs t →
+  taking : (at : ℕ) → n ≤ at → (acts : List Performed) → Folded at acts → (max : ℕ) (rest : Entries) (place : ℕ) (t : T) (xs : List X) (g sent unsent : List (ℕ × I)) → WovenTo machine ends (after_cmd m t by (takes_it max)) by place acts rest → Tracked m good may l (H g) by number k d n xs t →
       (let one : Taking M I = record { max = max; stamp = (reply_to_cmd m t by (takes_it max)).stamp; said = answer m t by (takes_it max) } in
       sent ++ unsent ≡ given (one ∷ takings number acts) → Whole (m.squashes k) at (one ∷ takings number acts) sent →
       fold m k (m.value k d) (bare m (upto at (g ++ sent))) ≡ m.value k (changed m d (take (at - n) ((xs ++ changes_at m t by (takes_it max)) ++ changes_from m (after_cmd m t by (takes_it max)) rest))))
@@ -351,7 +351,7 @@ module _ {D J W N P M X K I F : Type 0} (m : Feeding D J W N P M X K I F) (good 
         | inr v ↦ ih rest place (after_cmd m t by (takes_it max)) (more xs t max s) (g ++ is) h.0 unsent w (o.next h.2) left_over v
       ]
 
-  folded_cmd : (at : ℕ) → n ≤ at → (acts : List A1) → Folded at acts → (cmd : Cmd W N P) → FoldedAfter at acts cmd
+  folded_cmd : (at : ℕ) → n ≤ at → (acts : List Performed) → Folded at acts → (cmd : Cmd W N P) → FoldedAfter at acts cmd
   folded_cmd at le acts ih (cmds.Write c) rest place t xs g sent unsent w r e h = leaving at acts ih (cmds.Write c) tt rest place t xs g sent unsent w r e h
   folded_cmd at le acts ih (cmds.Index c) rest place t xs g sent unsent w r e h = leaving at acts ih (cmds.Index c) tt rest place t xs g sent unsent w r e h
   folded_cmd at le acts ih (cmds.Subscribe c) rest place t xs g sent unsent w r e h = leaving at acts ih (cmds.Subscribe c) tt rest place t xs g sent unsent w r e h
@@ -375,13 +375,13 @@ module _ {D J W N P M X K I F : Type 0} (m : Feeding D J W N P M X K I F) (good 
       (λ f e h. leaving at acts ih (cmds.Take feed max) (λ _ q. both_ways (nat_eq feed number) f (eq-eqb feed number q)) rest place t xs g sent unsent w r e h)
       e h
 
-  folded_idle : (at : ℕ) → n ≤ at → (acts : List A1) → Folded at acts → (history : Entries) (t : T) (xs : List X) (g sent unsent : List (ℕ × I)) → Idle m ends by t acts history → Tracked m good may l (H g) by number k d n xs t →
+  folded_idle : (at : ℕ) → n ≤ at → (acts : List Performed) → Folded at acts → (history : Entries) (t : T) (xs : List X) (g sent unsent : List (ℕ × I)) → Idle m ends by t acts history → Tracked m good may l (H g) by number k d n xs t →
       sent ++ unsent ≡ given (takings number acts) → Whole (m.squashes k) at (takings number acts) sent → fold m k (m.value k d) (bare m (upto at (g ++ sent))) ≡ m.value k (changed m d (take (at - n) (xs ++ changes_from m t history)))
   folded_idle at le acts ih history t xs g sent unsent a r e h =
       ih a.rest a.place (replay machine t a.others) (xs ++ changes_from m t a.others) g sent unsent a.woven (tracked_others m good may l (H g) by number k d n (holds_on m good may l k d n g) xs t a.others a.theirs r) e h
       ∙ ap (λ z. m.value k (changed m d (take (at - n) z))) (append_assoc xs (changes_from m t a.others) (changes_from m (replay machine t a.others) a.rest) ∙ ap (λ z. xs ++ z) (sym a.changes))
 
-  folded : (at : ℕ) → n ≤ at → (acts : List A1) → Folded at acts
+  folded : (at : ℕ) → n ≤ at → (acts : List Performed) → Folded at acts
   folded at le [] history place t xs g sent unsent w r e h = absurd h
   folded at le (Ran p order reply ∷ acts) history place t xs g sent unsent w r e h =
       let a : After m ends by t place p acts history order.cmd reply = ran m ends by t place p order reply acts history w in

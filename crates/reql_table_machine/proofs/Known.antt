@@ -51,22 +51,22 @@ module _ {D J W N P M X K I F : Type 0} (m : Feeding D J W N P M X K I F) (good 
   abbrev machine : Machine T (Order (Cmd W N P)) (Reply (Said M I)) (Unit {0}) (Look (D × J))
   machine = table_machine m
 
-  abbrev A1 : Type 0
-  A1 = Act (Order (Cmd W N P)) (Reply (Said M I)) (Unit {0}) (Look (D × J))
+  abbrev Performed : Type 0
+  Performed = Act (Order (Cmd W N P)) (Reply (Said M I)) (Unit {0}) (Look (D × J))
 
   abbrev Known : List (Taking M I) → Type 0
   Known ts = AllByRecursion (λ (t : Taking M I). IsKnown t.said) ts
 
-  abbrev Knows : List A1 → Type 0
+  abbrev Knows : List Performed → Type 0
   Knows acts = (history : List (Recorded (Order (Cmd W N P)))) (place : ℕ) (t : T) (xs : List X) → WovenTo machine ends t by place acts history → Is xs t → Known (takings number acts)
 
-  abbrev after_it : Cmd W N P → Reply (Said M I) → List A1 → List (Taking M I)
+  abbrev after_it : Cmd W N P → Reply (Said M I) → List Performed → List (Taking M I)
   after_it cmd reply acts = cond (is_end number cmd) [] (taking_by number cmd reply ++ takings number acts)
 
-  step : (acts : List A1) → Knows acts → (cmd : Cmd W N P) → Leaves by number by cmd → (rest : List (Recorded (Order (Cmd W N P)))) (place : ℕ) (t : T) (xs : List X) → WovenTo machine ends (after_cmd m t by cmd) by place acts rest → Is xs t → Known (takings number acts)
+  step : (acts : List Performed) → Knows acts → (cmd : Cmd W N P) → Leaves by number by cmd → (rest : List (Recorded (Order (Cmd W N P)))) (place : ℕ) (t : T) (xs : List X) → WovenTo machine ends (after_cmd m t by cmd) by place acts rest → Is xs t → Known (takings number acts)
   step acts ih cmd v rest place t xs w r = ih rest place (after_cmd m t by cmd) (xs ++ changes_at m t by cmd) w (tracked_step m good may l Any by number k d n any_on xs t by cmd v r)
 
-  known_cmd : (acts : List A1) → Knows acts → (cmd : Cmd W N P) (rest : List (Recorded (Order (Cmd W N P)))) (place : ℕ) (t : T) (xs : List X) → WovenTo machine ends (after_cmd m t by cmd) by place acts rest → Is xs t → Known (after_it cmd (reply_to_cmd m t by cmd) acts)
+  known_cmd : (acts : List Performed) → Knows acts → (cmd : Cmd W N P) (rest : List (Recorded (Order (Cmd W N P)))) (place : ℕ) (t : T) (xs : List X) → WovenTo machine ends (after_cmd m t by cmd) by place acts rest → Is xs t → Known (after_it cmd (reply_to_cmd m t by cmd) acts)
   known_cmd acts ih (cmds.Write c) rest place t xs w r = step acts ih (cmds.Write c) tt rest place t xs w r
   known_cmd acts ih (cmds.Index c) rest place t xs w r = step acts ih (cmds.Index c) tt rest place t xs w r
   known_cmd acts ih (cmds.Subscribe c) rest place t xs w r = step acts ih (cmds.Subscribe c) tt rest place t xs w r
@@ -83,7 +83,7 @@ module _ {D J W N P M X K I F : Type 0} (m : Feeding D J W N P M X K I F) (good 
       ))
       (λ e. step acts ih (cmds.Take feed max) (λ _ q. both_ways (nat_eq feed number) e (eq-eqb feed number q)) rest place t xs w r)
 
-  known : (acts : List A1) → Knows acts
+  known : (acts : List Performed) → Knows acts
   known [] history place t xs w r = tt
   known (Ran p order reply ∷ acts) history place t xs w r =
       let a : After m ends by t place p acts history order.cmd reply = ran m ends by t place p order reply acts history w in

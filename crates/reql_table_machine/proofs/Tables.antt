@@ -110,11 +110,11 @@ module _ {D J W N P M X K I F : Type 0} (m : Feeding D J W N P M X K I F) (good 
   abbrev ends : Entries → Type 0
   ends rest = Unit {0}
 
-  abbrev A1 : Type 0
-  A1 = Act (Order (Cmd W N P)) (Reply (Said M I)) (Unit {0}) (Look (D × J))
+  abbrev Performed : Type 0
+  Performed = Act (Order (Cmd W N P)) (Reply (Said M I)) (Unit {0}) (Look (D × J))
 
   -- the feed that a Subscribe opened
-  module _ (o : T) (history : Entries) (by : ℕ) (s : T) (fine : Fine s) (acts : List A1) (pre rest : Entries) (next : ℕ) (whole : history ≡ pre ++ rest) where
+  module _ (o : T) (history : Entries) (by : ℕ) (s : T) (fine : Fine s) (acts : List Performed) (pre rest : Entries) (next : ℕ) (whole : history ≡ pre ++ rest) where
     abbrev Opening : T → Option K → Said M I → Type 0
     Opening u kept x = WovenTo machine ends (cond (adds m x) u s) by next acts rest → cond (adds m x) u s ≡ replay machine o pre → FedSaid m o history kept (cond (adds m x) u s).stamp x acts
 
@@ -154,7 +154,7 @@ module _ {D J W N P M X K I F : Type 0} (m : Feeding D J W N P M X K I F) (good 
     fed_cmd place cmds.Shut at v e = tt
     fed_cmd place cmds.Sync at v e = tt
 
-  all_fed_from : (o : T) (history : Entries) (by : ℕ) → Fine o → (acts : List A1) (pre rest : Entries) (t : T) (at : ℕ) → history ≡ pre ++ rest → at ≡ length pre → t ≡ replay machine o pre → WovenTo machine ends t by at acts rest → AllFed m o history acts
+  all_fed_from : (o : T) (history : Entries) (by : ℕ) → Fine o → (acts : List Performed) (pre rest : Entries) (t : T) (at : ℕ) → history ≡ pre ++ rest → at ≡ length pre → t ≡ replay machine o pre → WovenTo machine ends t by at acts rest → AllFed m o history acts
   all_fed_from o history by f [] pre rest t at e n s w = tt
   all_fed_from o history by f (Looked p q x ∷ acts) pre rest t at e n s w =
       all_fed_from o history by f acts (pre ++ (w.0 ++ [])) w.1 (replay machine t (w.0 ++ [])) (at + length (w.0 ++ [])) (e ∙ ap (λ z. pre ++ z) w.2 ∙ sym (append_assoc pre (w.0 ++ []) w.1)) (omega (arith, n, length-append pre (w.0 ++ [])))
@@ -181,7 +181,7 @@ module _ {D J W N P M X K I F : Type 0} (m : Feeding D J W N P M X K I F) (good 
       )
 
   -- A user's acts along a part of a history: each of its feeds folds to its query.
-  pub all_fed : (o : T) (before during after : Entries) (by : ℕ) (acts : List A1) → good o.docs → o.feeds ≡ [] → Woven machine (replay machine o before) by (length before) acts during → AllFed m o (before ++ (during ++ after)) acts
+  pub all_fed : (o : T) (before during after : Entries) (by : ℕ) (acts : List Performed) → good o.docs → o.feeds ≡ [] → Woven machine (replay machine o before) by (length before) acts during → AllFed m o (before ++ (during ++ after)) acts
   all_fed o before during later by acts g none w =
       all_fed_from o (before ++ (during ++ later)) by (record { docs = g; low = subst (λ z. Low o.place z) (sym none) tt }) acts before (during ++ later) (replay machine o before) (length before) refl refl refl
       (woven_longer machine (replay machine o before) by (length before) acts during later w)
