@@ -8,8 +8,8 @@ use Rattle.reql_datum.specs.declared.datum.Datum.{Datum}
 use Rattle.reql_datum.specs.declared.fault.Fault.{Fault}
 use Rattle.reql_value.specs.Meant.{Calls}
 use Rattle.reql_value.specs.World.{World}
-use Rattle.reql_apply.specs.Seen.{meant}
-use Rattle.reql_apply.specs.declared.value.Value.{Value}
+use Rattle.reql_operand.specs.Seen.{meant}
+use Rattle.reql_operand.specs.declared.value.Value.{Value}
 
 -- each answer of the function at a place is what calls gives there, unless memory ran out
 pub record Answers (w : World) {F : Type 0} (g : Shared F (ℕ × (Bor (List Datum) × Unit {0})) (Result Value Fault)) (f : F) (calls : Calls) : Type 0 where

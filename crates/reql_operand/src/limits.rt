@@ -8,7 +8,7 @@ ghost use Rattle.reql_rules.specs.Sizes.{max_depth, is_long as is_long_of, short
 ghost use Rattle.reql_value.specs.Meant.{selection};
 ghost use Rattle.reql_value.specs.Sequenced.{sized as sized_of, sized_rows as sized_rows_of, sized_group};
 ghost use Rattle.reql_value.specs.World.{World as Seen};
-ghost use Rattle.reql_apply.specs.Seen.{meant, rows, group};
+ghost use Rattle.reql_operand.specs.Seen.{meant, rows, group};
 
 use crate::texts::{over_array, over_depth};
 use crate::value::{Group, Rows, Value};

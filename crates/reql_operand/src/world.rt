@@ -2,7 +2,7 @@
 ghost use Rattle.std.specs.Prelude.{◌≡◌, IfOk};
 ghost use Rattle.reql_datum.specs.Outcome.{Gives};
 ghost use Rattle.reql_value.specs.World.{view_at};
-ghost use Rattle.reql_apply.specs.Tables.{view, seen};
+ghost use Rattle.reql_operand.specs.Tables.{view, seen};
 
 use crate::texts::misplaced;
 use reql_datum::{Fault, Name};

@@ -1,7 +1,7 @@
 use Rattle.std.proofs.Common.{◌≡◌, drop, map}
 use Rattle.reql_value.specs.World.{view_in}
-use Rattle.reql_apply.specs.Tables.{slotted}
-use Rattle.reql_apply.proofs.world.table_at.Given as goal
+use Rattle.reql_operand.specs.Tables.{slotted}
+use Rattle.reql_operand.proofs.world.table_at.Given as goal
 
 abbrev pub invariant-loop-table : goal.invariant-loop-table
 invariant-loop-table g l =

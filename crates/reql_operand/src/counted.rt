@@ -3,9 +3,9 @@ ghost use Rattle.std.specs.Prelude.{◌≡◌, Ok, IfOk, length, option_map, sli
 ghost use Rattle.reql_datum.specs.Outcome.{Gives};
 ghost use Rattle.reql_datum.specs.View.{plain};
 ghost use Rattle.reql_value.specs.Sequences.{count_elements as count_elements_of};
-ghost use Rattle.reql_apply.specs.Counted.{element};
-ghost use Rattle.reql_apply.specs.Seen.{meant, documents_at, documents_of_view};
-ghost use Rattle.reql_apply.specs.Tables.{view, seen};
+ghost use Rattle.reql_operand.specs.Counted.{element};
+ghost use Rattle.reql_operand.specs.Seen.{meant, documents_at, documents_of_view};
+ghost use Rattle.reql_operand.specs.Tables.{view, seen};
 
 use crate::reading::to_sequence;
 use crate::value::Value;

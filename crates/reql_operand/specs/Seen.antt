@@ -10,19 +10,19 @@ use Rattle.reql_term.specs.declared.range.Range.{Range}
 use Rattle.reql_rules.specs.Lists.{Bytes}
 use Rattle.reql_value.specs.Meant as m
 use Rattle.reql_value.specs.World.{World, View, view_at}
-use Rattle.reql_apply.specs.declared.value.Bounds.{Bounds}
-use Rattle.reql_apply.specs.declared.value.Slice.{Slice}
-use Rattle.reql_apply.specs.declared.value.Slice.TheVariants as s
-use Rattle.reql_apply.specs.declared.value.Rows.{Rows}
-use Rattle.reql_apply.specs.declared.value.Rows.TheVariants as r
-use Rattle.reql_apply.specs.declared.value.Group.{Group}
-use Rattle.reql_apply.specs.declared.value.Value.{Value}
-use Rattle.reql_apply.specs.declared.value.Value.TheVariants as v
-use Rattle.reql_apply.specs.declared.value.Key.{Key}
-use Rattle.reql_apply.specs.declared.value.Key.TheVariants as k
-use Rattle.reql_apply.specs.declared.value.Arg.{Arg}
-use Rattle.reql_apply.specs.declared.value.Arg.TheVariants as a
-use Rattle.reql_apply.specs.declared.value.Choice.{Choice}
+use Rattle.reql_operand.specs.declared.value.Bounds.{Bounds}
+use Rattle.reql_operand.specs.declared.value.Slice.{Slice}
+use Rattle.reql_operand.specs.declared.value.Slice.TheVariants as s
+use Rattle.reql_operand.specs.declared.value.Rows.{Rows}
+use Rattle.reql_operand.specs.declared.value.Rows.TheVariants as r
+use Rattle.reql_operand.specs.declared.value.Group.{Group}
+use Rattle.reql_operand.specs.declared.value.Value.{Value}
+use Rattle.reql_operand.specs.declared.value.Value.TheVariants as v
+use Rattle.reql_operand.specs.declared.value.Key.{Key}
+use Rattle.reql_operand.specs.declared.value.Key.TheVariants as k
+use Rattle.reql_operand.specs.declared.value.Arg.{Arg}
+use Rattle.reql_operand.specs.declared.value.Arg.TheVariants as a
+use Rattle.reql_operand.specs.declared.value.Choice.{Choice}
 
 abbrev pub bounds : Bounds → m.Bounds
 bounds b = record { index = b.index; low = plain b.low.value; low_open = b.low.is_open; high = plain b.high.value; high_open = b.high.is_open }
