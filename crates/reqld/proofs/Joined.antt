@@ -5,7 +5,7 @@ use Rattle.reql_outside.specs.Tape.{Tape, Moves}
 use Rattle.reql_outside.proofs.Moving.{moves_on, moves_next, recv_failed_first, send_failed_first, still}
 use Rattle.reql_wire.specs.Frames.{Fits, spelling, spellings}
 use Rattle.reql_wire.specs.declared.frame.Frame.{Frame}
-use Rattle.reql_law.specs.declared.command.Entry.{Entry}
+use Rattle.reql_plain_table.specs.declared.command.Entry.{Entry}
 use Rattle.reqld.specs.Requests.{history_after}
 use Rattle.reqld.specs.Endings.{faulted, SaysOf}
 use Rattle.reqld.specs.Answered.{Answered, last_piece}

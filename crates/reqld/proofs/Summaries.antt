@@ -2,7 +2,7 @@
 use Rattle.std.proofs.Common.{◌≡◌, ℕ, List, [], ◌∷◌, Option, Some, None, codes, refl}
 use Rattle.reql_datum.specs.Plain.{Plain}
 use Rattle.reql_datum.specs.Members.{put}
-use Rattle.reql_law.specs.declared.command.Summary.{Summary}
+use Rattle.reql_plain_table.specs.declared.command.Summary.{Summary}
 use Rattle.reqld.specs.Summaries.{count, text_member, list_member, any_keys, put_all, summary_members}
 
 puts : (d e i r s u : ℕ) (first : Option (List ℕ)) (keys : List Plain) (changes : Option (List Plain)) →

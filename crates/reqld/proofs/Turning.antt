@@ -5,7 +5,7 @@ use Rattle.reql_wire.specs.Frames.{Fits, NoFrame, More, front, header, spelling,
 use Rattle.reql_wire.specs.Feeding.{Holding}
 use Rattle.reql_wire.proofs.Fronts.{length-header}
 use Rattle.reql_wire.specs.declared.frame.Frame.{Frame}
-use Rattle.reql_law.specs.declared.command.Entry.{Entry}
+use Rattle.reql_plain_table.specs.declared.command.Entry.{Entry}
 use Rattle.reqld.specs.Turns.{World, Runs, Turned, OneAnswer, Said, Received, Handles, Serves}
 use Rattle.reqld.specs.declared.ending.End.{End}
 use Rattle.reqld.specs.declared.ending.End.TheVariants as ends

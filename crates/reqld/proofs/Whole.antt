@@ -6,7 +6,7 @@ use Rattle.reql_wire.specs.Frames.{More, front, spellings}
 use Rattle.reql_wire.specs.Feeding.{Holding}
 use Rattle.reql_wire.specs.Greeting.{greeting_bytes, accepted}
 use Rattle.reql_wire.proofs.Fronts.{short_more, more_no_frame}
-use Rattle.reql_law.specs.declared.command.Entry.{Entry}
+use Rattle.reql_plain_table.specs.declared.command.Entry.{Entry}
 use Rattle.reqld.specs.Greeted.{SaysFront, Accepts, EndsEarly}
 use Rattle.reqld.specs.Answered.{last_piece}
 use Rattle.reqld.specs.Turns.{Serves, Why}

@@ -2,7 +2,7 @@
 use Rattle.std.specs.Prelude.{◌≡◌, ℕ, ◌⊎◌, List, [], ◌∷◌}
 use Rattle.reql_wire.specs.Frames.{spelling}
 use Rattle.reql_wire.specs.declared.frame.Frame.{Frame}
-use Rattle.reql_law.specs.declared.command.Entry.{Entry}
+use Rattle.reql_plain_table.specs.declared.command.Entry.{Entry}
 use Rattle.reql_answer.specs.Body.{body, internal}
 use Rattle.reqld.specs.Requests.{answer_to, history_after}
 

@@ -7,7 +7,7 @@ use Rattle.reql_wire.specs.Frames.{Fits, NoFrame, Over, spellings, More, front}
 use Rattle.reql_wire.specs.Greeting.{greeting_bytes, accepted, refusal}
 use Rattle.reql_wire.specs.declared.frame.Frame.{Frame}
 use Rattle.reql_wire.specs.declared.greeter.GreetFault.TheVariants as faults
-use Rattle.reql_law.specs.declared.command.Entry.{Entry}
+use Rattle.reql_plain_table.specs.declared.command.Entry.{Entry}
 use Rattle.reqld.specs.Endings.{status_of, faulted, SaysOf}
 use Rattle.reqld.specs.Greeted.{AreShort, AreRefused}
 use Rattle.reqld.specs.Answered.{Answered, last_piece}

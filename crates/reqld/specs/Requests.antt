@@ -6,14 +6,14 @@ use Rattle.reql_datum.specs.Order.{order}
 use Rattle.reql_memory.specs.Sorted.{find_by}
 use Rattle.reql_read.specs.FaultText.{fault_text, answer_type}
 use Rattle.reql_read.specs.declared.fault.ReadFault.{ReadFault}
-use Rattle.reql_law.specs.Machine.{Table, replay, reply}
-use Rattle.reql_law.specs.declared.command.Cmd.TheVariants as cmds
-use Rattle.reql_law.specs.declared.command.Order.{Order}
-use Rattle.reql_law.specs.declared.command.Entry.{Entry}
+use Rattle.reql_plain_table.specs.Machine.{Table, replay, reply}
+use Rattle.reql_plain_table.specs.declared.command.Cmd.TheVariants as cmds
+use Rattle.reql_plain_table.specs.declared.command.Order.{Order}
+use Rattle.reql_plain_table.specs.declared.command.Entry.{Entry}
 use Rattle.reql_datum.specs.declared.point.Point.{Point}
-use Rattle.reql_law.specs.declared.command.Reply.{Reply}
-use Rattle.reql_law.specs.declared.command.Said.{Said}
-use Rattle.reql_law.specs.declared.command.Said.TheVariants as said
+use Rattle.reql_plain_table.specs.declared.command.Reply.{Reply}
+use Rattle.reql_plain_table.specs.declared.command.Said.{Said}
+use Rattle.reql_plain_table.specs.declared.command.Said.TheVariants as said
 use Rattle.reqld.specs.Fields.{key_field}
 use Rattle.reql_answer.specs.Body.{Stamped, atom, body, fault, refusal}
 use Rattle.reql_answer.specs.declared.error.ErrorType.TheVariants as errors

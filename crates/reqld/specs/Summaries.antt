@@ -2,7 +2,7 @@
 use Rattle.std.specs.Prelude.{ℕ, pos, min, List, [], ◌∷◌, ◌++◌, Option, Some, None, codes}
 use Rattle.reql_datum.specs.Plain.{Plain, number, text, array, object, items_of, pairs_of}
 use Rattle.reql_datum.specs.Members.{put}
-use Rattle.reql_law.specs.declared.command.Summary.{Summary}
+use Rattle.reql_plain_table.specs.declared.command.Summary.{Summary}
 
 -- a count as a number of a document: above 2^53 it is 2^53
 abbrev pub count : ℕ → Plain

@@ -5,7 +5,7 @@ use Rattle.reql_outside.specs.Tape.{Tape, Moves, recv_failed, send_failed}
 use Rattle.reql_wire.specs.Frames.{Fits, NoFrame, Over, spelling, spellings, More, front}
 use Rattle.reql_wire.specs.Feeding.{Holding}
 use Rattle.reql_wire.specs.declared.frame.Frame.{Frame}
-use Rattle.reql_law.specs.declared.command.Entry.{Entry}
+use Rattle.reql_plain_table.specs.declared.command.Entry.{Entry}
 use Rattle.reqld.specs.Endings.{faulted, SaysOf}
 use Rattle.reqld.specs.Answered.{Answered, last_piece}
 use Rattle.reqld.specs.declared.ending.End.{End}

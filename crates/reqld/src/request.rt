@@ -1,6 +1,6 @@
 // What a request is answered, and what it leaves in the table's history.
 ghost use Rattle.std.specs.Prelude.{◌≡◌, ◌++◌, ◌∷◌, [], ◌⊎◌, IfOk, OnOk, OnErr, codes, option_map, string_bytes};
-ghost use Rattle.reql_law.specs.Machine.{replay, reply};
+ghost use Rattle.reql_plain_table.specs.Machine.{replay, reply};
 ghost use Rattle.reql_datum.specs.View.{plain};
 ghost use Rattle.reql_read.specs.View.{asked};
 ghost use Rattle.reql_read.specs.declared.fault.ReadFault.TheVariants as faults;
@@ -15,7 +15,7 @@ use crate::setting::Setting;
 use crate::summary::summary_document;
 use reql_answer::{ErrorType, Stamp, atom, fault, refusal};
 use reql_datum::{Datum, Fields, Memory, Name, Seq};
-use reql_law::{Cmd, Order, PlainTable, Point, Reply, Said, WriteCmd};
+use reql_plain_table::{Cmd, Order, PlainTable, Point, Reply, Said, WriteCmd};
 use reql_read::{Query, ReadFault, read_query};
 use std::alloc::Global;
 

@@ -11,8 +11,8 @@ use crate::request::answer;
 use crate::setting::Setting;
 use crate::spare::Spare;
 use reql_datum::Memory;
-use reql_law::PlainTable;
 use reql_outside::{Link, Recv, send_all};
+use reql_plain_table::PlainTable;
 use reql_wire::{Feeder, Frame, WireFault, put_frame};
 
 /// What the turns of a session change, its link aside.

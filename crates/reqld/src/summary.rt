@@ -7,7 +7,7 @@ ghost use Rattle.reqld.specs.Summaries.{count as count_of};
 
 use crate::fields::put;
 use reql_datum::{Datum, Fields, Items, Memory, Name, Whole};
-use reql_law::Summary;
+use reql_plain_table::Summary;
 use std::alloc::Global;
 
 fn set(alloc: Global, fields: &mut Fields, name: &str, value: Datum) -> Result<(), Memory>

@@ -10,8 +10,8 @@ use crate::setting::Setting;
 use crate::spare::Spare;
 use crate::words::{Command, command_of};
 use reql_datum::Name;
-use reql_law::{Entry, PlainTable};
 use reql_outside::Link;
+use reql_plain_table::{Entry, PlainTable};
 use reql_wire::Feeder;
 use std::alloc::Global;
 

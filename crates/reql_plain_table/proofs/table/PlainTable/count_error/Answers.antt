@@ -1,5 +1,5 @@
-use Rattle.reql_law.proofs.Kept.{keeps_error}
-use Rattle.reql_law.proofs.table.PlainTable.count_error.Goals as goal
+use Rattle.reql_plain_table.proofs.Kept.{keeps_error}
+use Rattle.reql_plain_table.proofs.table.PlainTable.count_error.Goals as goal
 
 pub invariant_of-self-2 : goal.invariant_of-self-2
 invariant_of-self-2 c =

@@ -5,9 +5,9 @@ ghost use Rattle.std.specs.Map.{keys_of};
 ghost use Rattle.reql_datum.specs.Order as orders;
 ghost use Rattle.reql_memory.specs.Sorted.{find_by, IsGapBy};
 ghost use Rattle.reql_datum.specs.View.{plain};
-ghost use Rattle.reql_law.specs.Machine.{reply, replay};
-ghost use Rattle.reql_law.specs.Rows.{pair};
-ghost use Rattle.reql_law.specs.Write.{Inserts, Errs, verdict_of, inserted_by};
+ghost use Rattle.reql_plain_table.specs.Machine.{reply, replay};
+ghost use Rattle.reql_plain_table.specs.Rows.{pair};
+ghost use Rattle.reql_plain_table.specs.Write.{Inserts, Errs, verdict_of, inserted_by};
 
 use crate::command::{Cmd, Entry, Order, Reply, Said, Summary};
 use crate::judging::{Verdict, judge};
@@ -30,7 +30,7 @@ pub struct PlainTable {
 
 impl Model for PlainTable {
     ghost use Rattle.std.specs.Prelude.{List};
-    ghost use Rattle.reql_law.specs.declared.command.Entry.{Entry};
+    ghost use Rattle.reql_plain_table.specs.declared.command.Entry.{Entry};
     ghost use Rattle.std.specs.Coded.{codes};
     ghost use Rattle.reql_datum.specs.Code.{plain_code, pairs_code};
 
@@ -40,7 +40,7 @@ impl Model for PlainTable {
 
     ghost view = { λ t. t.history.items };
 
-    ghost use Rattle.reql_law.specs.Kept.{Keeps};
+    ghost use Rattle.reql_plain_table.specs.Kept.{Keeps};
 
     ghost invariant = { λ t. Keeps t.rows.items t.stamp t.history.items };
 }

@@ -5,11 +5,11 @@ use Rattle.reql_datum.specs.Plain.{Plain}
 use Rattle.reql_datum.specs.Order.{order}
 use Rattle.reql_memory.specs.Sorted.{IsGapBy}
 use Rattle.reql_datum.specs.View.{plain}
-use Rattle.reql_law.specs.Write.{Inserts, Errs, verdict}
-use Rattle.reql_law.specs.declared.command.WriteCmd.{WriteCmd}
-use Rattle.reql_law.specs.declared.row.Row.{Row}
-use Rattle.reql_law.specs.declared.judging.Verdict.{Verdict}
-use Rattle.reql_law.specs.declared.judging.Verdict.TheVariants as found
+use Rattle.reql_plain_table.specs.Write.{Inserts, Errs, verdict}
+use Rattle.reql_plain_table.specs.declared.command.WriteCmd.{WriteCmd}
+use Rattle.reql_plain_table.specs.declared.row.Row.{Row}
+use Rattle.reql_plain_table.specs.declared.judging.Verdict.{Verdict}
+use Rattle.reql_plain_table.specs.declared.judging.Verdict.TheVariants as found
 
 abbrev pub pair : Row → Plain × Plain
 pair r = (plain r.key, plain r.doc)

@@ -6,8 +6,8 @@ ghost use Rattle.reql_datum.specs.Kinds.{type_name};
 ghost use Rattle.reql_datum.specs.Order.{order};
 ghost use Rattle.reql_memory.specs.Sorted.{AreRisingBy, find_by, IsHitBy, IsGapBy};
 ghost use Rattle.reql_datum.specs.View.{plain};
-ghost use Rattle.reql_law.specs.Rows.{pair, Judges};
-ghost use Rattle.reql_law.specs.Write.{not_a_key, duplicate};
+ghost use Rattle.reql_plain_table.specs.Rows.{pair, Judges};
+ghost use Rattle.reql_plain_table.specs.Write.{not_a_key, duplicate};
 
 use crate::command::WriteCmd;
 use crate::row::Row;

@@ -1,13 +1,13 @@
 -- The table machine: what each command does to a table, and what it is answered.
 use Rattle.std.specs.Prelude.{ℕ, ◌+◌, List, [], ◌∷◌, length}
 use Rattle.reql_datum.specs.Plain.{Plain}
-use Rattle.reql_law.specs.Write.{write}
-use Rattle.reql_law.specs.declared.command.Cmd.{Cmd}
-use Rattle.reql_law.specs.declared.command.Cmd.TheVariants as cmds
-use Rattle.reql_law.specs.declared.command.Order.{Order}
-use Rattle.reql_law.specs.declared.command.Entry.{Entry}
-use Rattle.reql_law.specs.declared.command.Reply.{Reply}
-use Rattle.reql_law.specs.declared.command.Said.TheVariants as said
+use Rattle.reql_plain_table.specs.Write.{write}
+use Rattle.reql_plain_table.specs.declared.command.Cmd.{Cmd}
+use Rattle.reql_plain_table.specs.declared.command.Cmd.TheVariants as cmds
+use Rattle.reql_plain_table.specs.declared.command.Order.{Order}
+use Rattle.reql_plain_table.specs.declared.command.Entry.{Entry}
+use Rattle.reql_plain_table.specs.declared.command.Reply.{Reply}
+use Rattle.reql_plain_table.specs.declared.command.Said.TheVariants as said
 
 -- a table: its documents, each behind its primary key and rising by it, the number of its entries, and the number of their changes
 pub record Table : Type 0 where

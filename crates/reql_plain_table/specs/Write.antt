@@ -6,10 +6,10 @@ use Rattle.reql_datum.specs.Keys.{is_key}
 use Rattle.reql_datum.specs.Kinds.{type_name, is_storable}
 use Rattle.reql_datum.specs.Members.{find}
 use Rattle.reql_memory.specs.Sorted.{find_by, put_by}
-use Rattle.reql_law.specs.declared.command.WriteCmd.{WriteCmd}
-use Rattle.reql_law.specs.declared.command.Summary.{Summary}
-use Rattle.reql_law.specs.declared.command.Cmd.{Cmd}
-use Rattle.reql_law.specs.declared.command.Cmd.TheVariants as cmds
+use Rattle.reql_plain_table.specs.declared.command.WriteCmd.{WriteCmd}
+use Rattle.reql_plain_table.specs.declared.command.Summary.{Summary}
+use Rattle.reql_plain_table.specs.declared.command.Cmd.{Cmd}
+use Rattle.reql_plain_table.specs.declared.command.Cmd.TheVariants as cmds
 
 -- the texts of the errors of an insert
 abbrev pub misplaced : List ℕ

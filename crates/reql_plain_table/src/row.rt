@@ -17,7 +17,7 @@ impl Entry for Row {
     ghost use Rattle.reql_datum.specs.Plain.{Plain};
     ghost use Rattle.reql_datum.specs.Total.{order_total};
     ghost use Rattle.reql_datum.specs.View.{plain};
-    ghost use Rattle.reql_law.specs.Rows.{pair};
+    ghost use Rattle.reql_plain_table.specs.Rows.{pair};
 
     type Key = Datum;
 

@@ -9,14 +9,14 @@ use Rattle.reql_datum.specs.View.{plain}
 use Rattle.reql_datum.specs.Total.{order_total}
 use Rattle.reql_memory.proofs.Held.{held_insert}
 use Rattle.reql_memory.proofs.Sorted as sorted
-use Rattle.reql_law.specs.Write.{Inserts, Errs, verdict_of, inserted_by}
-use Rattle.reql_law.specs.Machine.{Table, empty, after, after_cmd, replay_from, replay}
-use Rattle.reql_law.specs.Rows.{pair}
-use Rattle.reql_law.specs.Kept.{Keeps}
-use Rattle.reql_law.specs.declared.command.Cmd.{Cmd}
-use Rattle.reql_law.specs.declared.command.Cmd.TheVariants as cmds
-use Rattle.reql_law.specs.declared.command.Entry.{Entry}
-use Rattle.reql_law.specs.declared.row.Row.{Row}
+use Rattle.reql_plain_table.specs.Write.{Inserts, Errs, verdict_of, inserted_by}
+use Rattle.reql_plain_table.specs.Machine.{Table, empty, after, after_cmd, replay_from, replay}
+use Rattle.reql_plain_table.specs.Rows.{pair}
+use Rattle.reql_plain_table.specs.Kept.{Keeps}
+use Rattle.reql_plain_table.specs.declared.command.Cmd.{Cmd}
+use Rattle.reql_plain_table.specs.declared.command.Cmd.TheVariants as cmds
+use Rattle.reql_plain_table.specs.declared.command.Entry.{Entry}
+use Rattle.reql_plain_table.specs.declared.row.Row.{Row}
 
 -- a further entry is one step more
 pub replay_on : (t : Table) (es : List Entry) (e : Entry) → replay_from t (es ++ e ∷ []) ≡ after (replay_from t es) e.by e.order

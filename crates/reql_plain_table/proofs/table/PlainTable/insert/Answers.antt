@@ -1,5 +1,5 @@
-use Rattle.reql_law.proofs.Kept.{keeps_insert}
-use Rattle.reql_law.proofs.table.PlainTable.insert.Goals as goal
+use Rattle.reql_plain_table.proofs.Kept.{keeps_insert}
+use Rattle.reql_plain_table.proofs.table.PlainTable.insert.Goals as goal
 
 pub invariant_of-self-2 : goal.invariant_of-self-2
 invariant_of-self-2 c =

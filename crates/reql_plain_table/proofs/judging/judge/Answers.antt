@@ -1,10 +1,10 @@
 use Rattle.std.proofs.Common.{◌≡◌, map, sym, ap, ◌∙◌, arith}
 use Rattle.std.proofs.lemmas.List.{length-map}
 use Rattle.reql_datum.specs.View.{plain}
-use Rattle.reql_law.specs.Rows.{pair}
-use Rattle.reql_law.specs.Write.{Errs}
-use Rattle.reql_law.proofs.Found.{verdict_hit, verdict_gap}
-use Rattle.reql_law.proofs.judging.judge.Goals as goal
+use Rattle.reql_plain_table.specs.Rows.{pair}
+use Rattle.reql_plain_table.specs.Write.{Errs}
+use Rattle.reql_plain_table.proofs.Found.{verdict_hit, verdict_gap}
+use Rattle.reql_plain_table.proofs.judging.judge.Goals as goal
 
 pub returns-in_ok-duplicate-in-Ok : goal.returns-in_ok-duplicate-in-Ok
 returns-in_ok-duplicate-in-Ok c =

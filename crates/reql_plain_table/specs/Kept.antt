@@ -2,10 +2,10 @@
 use Rattle.std.specs.Prelude.{◌≡◌, ℕ, ◌≤◌, List, map, length}
 use Rattle.reql_datum.specs.Order.{order}
 use Rattle.reql_memory.specs.Sorted.{AreRisingBy}
-use Rattle.reql_law.specs.Machine.{replay}
-use Rattle.reql_law.specs.Rows.{pair}
-use Rattle.reql_law.specs.declared.command.Entry.{Entry}
-use Rattle.reql_law.specs.declared.row.Row.{Row}
+use Rattle.reql_plain_table.specs.Machine.{replay}
+use Rattle.reql_plain_table.specs.Rows.{pair}
+use Rattle.reql_plain_table.specs.declared.command.Entry.{Entry}
+use Rattle.reql_plain_table.specs.declared.row.Row.{Row}
 
 pub record Keeps (rows : List Row) (stamp : ℕ) (history : List Entry) : Type 0 where
   pub docs : map pair rows ≡ (replay history).docs

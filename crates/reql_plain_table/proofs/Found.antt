@@ -9,8 +9,8 @@ use Rattle.reql_datum.specs.Keys.{is_key}
 use Rattle.reql_datum.specs.Kinds.{is_storable}
 use Rattle.reql_datum.specs.Members.{find}
 use Rattle.reql_memory.proofs.Sorted as sorted
-use Rattle.reql_law.specs.Write.{Inserts, Errs, duplicate, unstorable, verdict}
-use Rattle.reql_law.specs.declared.command.WriteCmd.{WriteCmd}
+use Rattle.reql_plain_table.specs.Write.{Inserts, Errs, duplicate, unstorable, verdict}
+use Rattle.reql_plain_table.specs.declared.command.WriteCmd.{WriteCmd}
 
 pub verdict_hit : (docs : List (Plain × Plain)) (w : WriteCmd) (k : Plain) (i : ℕ) → Some k ≡ find w.key w.doc → is_key k ≡ true → IsHitBy order (keys_of docs) k i → verdict docs w ≡ Errs (duplicate w.key)
 verdict_hit [] w k i is ok hit = absurd hit
