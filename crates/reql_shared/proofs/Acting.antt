@@ -55,18 +55,18 @@ module _ {S C R Q A D : Type 0} (machine : Machine S C R Q A) (lodges : S → Li
       subst (λ (x : TableId × View C S). Acts machine (sight id v) (sight x.0 x.1) act) (λ k. (sym same k, sym is k))
       (acts_from machine id v e.log act e.prefix (e.all has) at answers)
 
-  pub ran : (n : View C S) (number : ℕ) (cmd : C) (result : Result R (Refused C)) → v.number ≡ number → w ≡ released n
-      → IfOk result (λ r. r ≡ machine.reply (replay machine m.0.start m.0.seen) number cmd)
-      → IfOk result (λ r. n ≡ grown (machine.recorded r) m.0 (noted number cmd))
-      → IfOk result (λ r. (place : ℕ) × Acts machine (sight id v) (sight now w) (Ran place cmd r))
-  ran n number cmd (Ok r) numbered freed reply grew = (
+  pub ran : {X : Type 0} (told : X → R) (n : View C S) (number : ℕ) (cmd : C) (result : Result X (Refused C)) → v.number ≡ number → w ≡ released n
+      → IfOk result (λ r. told r ≡ machine.reply (replay machine m.0.start m.0.seen) number cmd)
+      → IfOk result (λ r. n ≡ grown (machine.recorded (told r)) m.0 (noted number cmd))
+      → IfOk result (λ r. (place : ℕ) × Acts machine (sight id v) (sight now w) (Ran place cmd (told r)))
+  ran told n number cmd (Ok r) numbered freed reply grew = (
     length e.log,
-    became (Ran (length e.log) cmd r)
-        (freed ∙ ap released grew ∙ (λ k. released (grown (machine.recorded r) (e.now k).0 (noted (sym numbered k) cmd))) ∙ back_grown (machine.recorded r) v e.log (noted v.number cmd))
+    became (Ran (length e.log) cmd (told r))
+        (freed ∙ ap released grew ∙ (λ k. released (grown (machine.recorded (told r)) (e.now k).0 (noted (sym numbered k) cmd))) ∙ back_grown (machine.recorded (told r)) v e.log (noted v.number cmd))
         refl
         (reply ∙ (λ k. machine.reply (replay machine (e.now k).0.start (e.now k).0.seen) (sym numbered k) cmd)),
   )
-  ran n number cmd (Err x) numbered freed reply grew = tt
+  ran told n number cmd (Err x) numbered freed reply grew = tt
 
   stayed : w ≡ released m.0 → w ≡ back v e.log (e.log ++ [])
   stayed is = is ∙ (λ k. released (e.now k).0) ∙ ap (back v e.log) (sym (append-nil e.log))
@@ -74,11 +74,11 @@ module _ {S C R Q A D : Type 0} (machine : Machine S C R Q A) (lodges : S → Li
   pub denied : w ≡ released m.0 → (place : ℕ) × Acts machine (sight id v) (sight now w) (Denied place)
   denied is = (length e.log, became (Denied (length e.log)) (stayed is) refl tt)
 
-  pub looked : (M : Type 0) (question : Q) (result : Result A M) → IfOk result (λ a. a ≡ machine.answer (replay machine m.0.start m.0.seen) question) → w ≡ released m.0
-      → IfOk result (λ a. (place : ℕ) × Acts machine (sight id v) (sight now w) (Looked place question a))
-  looked M question (Ok a) says is =
-      (length e.log, became (Looked (length e.log) question a) (stayed is) refl (says ∙ (λ k. machine.answer (replay machine (e.now k).0.start (e.now k).0.seen) question)))
-  looked M question (Err x) says is = tt
+  pub looked : {X : Type 0} (heard : X → A) (M : Type 0) (question : Q) (result : Result X M) → IfOk result (λ a. heard a ≡ machine.answer (replay machine m.0.start m.0.seen) question) → w ≡ released m.0
+      → IfOk result (λ a. (place : ℕ) × Acts machine (sight id v) (sight now w) (Looked place question (heard a)))
+  looked heard M question (Ok a) says is =
+      (length e.log, became (Looked (length e.log) question (heard a)) (stayed is) refl (says ∙ (λ k. machine.answer (replay machine (e.now k).0.start (e.now k).0.seen) question)))
+  looked heard M question (Err x) says is = tt
 
 module _ {T X : Type 0} where
   pub if_err : (P Q : X → Type 0) (result : Result T X) → ((x : X) → P x → Q x) → IfErr result P → IfErr result Q

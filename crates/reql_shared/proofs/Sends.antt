@@ -41,16 +41,16 @@ lodged_send E C e = declared_send (lodged.the_type E C) (as_row_send (option.the
 pub seat_send : (E C S : RattleType) → IsSend E → IsSend (seat.the_field (lodged.the_row E C) (view.the_row C S)).row
 seat_send E C S e = let V = view.the_row C S in record { owned = λ d vs. ((λ vss. (tt, ((λ uss. (tt, tt)), tt))), seat_keyless (lodged.the_row E C) (lodged_send E C e) V.coded.code d.table_id d.id d.me); leaving = λ k f vs. tt }
 
-module _ (E C R Q A S : RattleType) (g : Ghosts E.Denot C.Denot R.Denot Q.Denot A.Denot S.Denot) where
-  pub pass_send : IsSend E → IsSend (pass.the_row E C R Q A S g)
-  pass_send e = view_send (inside_pass.the_row E C R Q A S g) _ _ _ _
-      (declared_send (inside_pass.the_type E C R Q A S g) (as_row_send (seat.the_field (lodged.the_row E C) (view.the_row C S)) (seat_send E C S e), (search rules, (search rules, (search rules, tt)))))
+module _ (E C R Q A S T H : RattleType) (g : Ghosts E.Denot C.Denot R.Denot Q.Denot A.Denot S.Denot T.Denot H.Denot) where
+  pub pass_send : IsSend E → IsSend (pass.the_row E C R Q A S T H g)
+  pass_send e = view_send (inside_pass.the_row E C R Q A S T H g) _ _ _ _
+      (declared_send (inside_pass.the_type E C R Q A S T H g) (as_row_send (seat.the_field (lodged.the_row E C) (view.the_row C S)) (seat_send E C S e), (search rules, (search rules, (search rules, tt)))))
 
-  table_sync : IsSend E → IsSync (table.the_row (lodged.the_row E C) (view.the_row C S) (origin.the_row E) (one_history.the_row E) global.the_row (rule.ghosts E C R Q A S g rule.no_dict) heap.ghosts)
+  table_sync : IsSend E → IsSync (table.the_row (lodged.the_row E C) (view.the_row C S) (origin.the_row E) (one_history.the_row E) global.the_row (rule.ghosts E C R Q A S T H g rule.no_dict) heap.ghosts)
   table_sync e =
       let l = lodged_send E C e in
-      declared_sync (table.the_type (lodged.the_row E C) (view.the_row C S) (origin.the_row E) (one_history.the_row E) global.the_row (rule.ghosts E C R Q A S g rule.no_dict) heap.ghosts) (
-        as_row_sync (board.the_field (lodged.the_row E C) (view.the_row C S) (origin.the_row E) (one_history.the_row E) (rule.ghosts E C R Q A S g rule.no_dict)) (board_crosses.the_sync (lodged.the_row E C) (view.the_row C S) (origin.the_row E) (one_history.the_row E) (rule.ghosts E C R Q A S g rule.no_dict) l),
+      declared_sync (table.the_type (lodged.the_row E C) (view.the_row C S) (origin.the_row E) (one_history.the_row E) global.the_row (rule.ghosts E C R Q A S T H g rule.no_dict) heap.ghosts) (
+        as_row_sync (board.the_field (lodged.the_row E C) (view.the_row C S) (origin.the_row E) (one_history.the_row E) (rule.ghosts E C R Q A S T H g rule.no_dict)) (board_crosses.the_sync (lodged.the_row E C) (view.the_row C S) (origin.the_row E) (one_history.the_row E) (rule.ghosts E C R Q A S T H g rule.no_dict) l),
         (
           search rules,
           (
@@ -66,6 +66,6 @@ module _ (E C R Q A S : RattleType) (g : Ghosts E.Denot C.Denot R.Denot Q.Denot 
         ),
       )
 
-  pub shared_sync : IsSend E → IsSync (shared.the_row E C R Q A S g)
-  shared_sync e = view_sync (inside_shared.the_row E C R Q A S g) _ _ _ _
-      (declared_sync (inside_shared.the_type E C R Q A S g) (table_sync e, tt))
+  pub shared_sync : IsSend E → IsSync (shared.the_row E C R Q A S T H g)
+  shared_sync e = view_sync (inside_shared.the_row E C R Q A S T H g) _ _ _ _
+      (declared_sync (inside_shared.the_type E C R Q A S T H g) (table_sync e, tt))

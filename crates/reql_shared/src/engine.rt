@@ -19,9 +19,20 @@ pub trait Engine {
     /// What contracts see of an engine. No value of it is made.
     type State;
 
-    ghost machine: { Machine Self.State Self.Cmd Self.Reply Self.Question Self.Answer };
+    /// What the machine says of a reply: all of it, or less where an engine tells more than its
+    /// machine knows. No value of it is made.
+    type Told;
+
+    /// What the machine says of an answer to a question. No value of it is made.
+    type Heard;
+
+    ghost machine: { Machine Self.State Self.Cmd Self.Told Self.Question Self.Heard };
 
     ghost state: { Self → Self.State };
+
+    ghost told: { Self.Reply → Self.Told };
+
+    ghost heard: { Self.Answer → Self.Heard };
 
     // Some state or other, which stands where no state is meant.
     ghost some_state: { Self.State };
@@ -29,25 +40,25 @@ pub trait Engine {
     /// Answers a command of the pass of number `by`. With want of memory nothing has changed.
     /// It records no command where the history has 2^64 - 1 entries.
     fn apply(&mut self, by: u64, cmd: Self::Cmd) -> Result<Self::Reply, Refused<Self::Cmd>>
-        ensures reply { IfOk result (λ r. r ≡ machine.reply (state self.old) by cmd) }
-        ensures recorded { IfOk result (λ r. machine.recorded r ≡ true
+        ensures reply { IfOk result (λ r. told r ≡ machine.reply (state self.old) by cmd) }
+        ensures recorded { IfOk result (λ r. machine.recorded (told r) ≡ true
             → state self.new ≡ machine.after (state self.old) by cmd) }
-        ensures counted { IfOk result (λ r. machine.recorded r ≡ true
+        ensures counted { IfOk result (λ r. machine.recorded (told r) ≡ true
             → machine.place (state self.new) ≡ machine.place (state self.old) + 1) }
-        ensures room { IfOk result (λ r. machine.recorded r ≡ true
+        ensures room { IfOk result (λ r. machine.recorded (told r) ≡ true
             → machine.place (state self.old) + 1 < 2 ^ 64) }
-        ensures same { IfOk result (λ r. machine.recorded r ≡ false
+        ensures same { IfOk result (λ r. machine.recorded (told r) ≡ false
             → state self.new ≡ state self.old) }
         ensures back { IfErr result (λ refused. refused.back ≡ cmd) }
         ensures refused { IfErr result (λ refused. state self.new ≡ state self.old) };
 
     /// Answers a question.
     fn ask(&self, question: &Self::Question) -> Result<Self::Answer, Memory>
-        ensures answer { IfOk result (λ a. a ≡ machine.answer (state self.now) question.now) };
+        ensures answer { IfOk result (λ a. heard a ≡ machine.answer (state self.now) question.now) };
 
     /// Whether the command that was answered so was recorded.
     fn records(answered: &Self::Reply) -> bool
-        ensures recorded { result ≡ machine.recorded answered.now };
+        ensures recorded { result ≡ machine.recorded (told answered.now) };
 }
 /// The question that asks an engine for a look at all that it holds now.
 #[derive(Clone, Copy, Debug, PartialEq, Eq)]

@@ -26,7 +26,7 @@ impl<E: Engine + Drop> Shared<E> {
         ensures object { pass.new.object ≡ pass.old.object }
         ensures number { pass.new.number ≡ pass.old.number }
         ensures looked { IfOk result (λ answer. (place : ℕ)
-            × Acts E.machine pass.old pass.new (Looked place question.now answer)) }
+            × Acts E.machine pass.old pass.new (Looked place question.now (E.heard answer))) }
         ensures denied { IfErr result (λ memory. (place : ℕ)
             × Acts E.machine pass.old pass.new (Denied place)) }
     {
@@ -51,7 +51,7 @@ fn ask<E: Engine + Drop>(
     ensures table { seat.new.table_id ≡ seat.old.table_id }
     ensures held { IsIn (Lodges E.state E.machine) seat.new.me }
     ensures view { seat.new.me.0 ≡ seat.old.me.0 }
-    ensures answer { IfOk result (λ a. a ≡ E.machine.answer
+    ensures answer { IfOk result (λ a. E.heard a ≡ E.machine.answer
         (replay E.machine seat.old.me.0.start seat.old.me.0.seen) question.now) }
 {
     let engine = take_engine(board, seat);

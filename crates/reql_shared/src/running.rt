@@ -28,7 +28,7 @@ impl<E: Engine + Drop> Shared<E> {
         ensures object { pass.new.object ≡ pass.old.object }
         ensures number { pass.new.number ≡ pass.old.number }
         ensures ran { IfOk result (λ reply. (place : ℕ)
-            × Acts E.machine pass.old pass.new (Ran place cmd reply)) }
+            × Acts E.machine pass.old pass.new (Ran place cmd (E.told reply))) }
         ensures refused { IfErr result (λ refused. (place : ℕ)
             × Acts E.machine pass.old pass.new (Denied place)) }
         ensures back { IfErr result (λ refused. refused.back ≡ cmd) }
@@ -56,9 +56,9 @@ fn apply<E: Engine + Drop>(
     requires numbered { (seat.old.me.0.own ≡ true) × (seat.old.me.0.number ≡ number) }
     ensures table { seat.new.table_id ≡ seat.old.table_id }
     ensures held { IsIn (Lodges E.state E.machine) seat.new.me }
-    ensures reply { IfOk result (λ r. r ≡ E.machine.reply
+    ensures reply { IfOk result (λ r. E.told r ≡ E.machine.reply
         (replay E.machine seat.old.me.0.start seat.old.me.0.seen) number cmd) }
-    ensures grown { IfOk result (λ r. seat.new.me.0 ≡ grown (E.machine.recorded r) seat.old.me.0
+    ensures grown { IfOk result (λ r. seat.new.me.0 ≡ grown (E.machine.recorded (E.told r)) seat.old.me.0
         (noted number cmd)) }
     ensures refused { IfErr result (λ r. (r.back ≡ cmd) × (seat.new.me.0 ≡ seat.old.me.0)) }
 {

@@ -22,9 +22,17 @@ impl Engine for Adder {
 
     type State = (u64, u64);
 
+    type Told = Option<u64>;
+
+    type Heard = u64;
+
     ghost machine = { adding };
 
     ghost state = { λ s. (s.sum, s.count) };
+
+    ghost told = { λ r. r };
+
+    ghost heard = { λ a. a };
 
     ghost some_state = { (0, 0) };
 

@@ -22,9 +22,17 @@ impl Engine for Callers {
 
     type State = LinkedList<u64>;
 
+    type Told = u64;
+
+    type Heard = LinkedList<u64>;
+
     ghost machine = { calling };
 
     ghost state = { λ s. s.calls.items };
+
+    ghost told = { λ r. r };
+
+    ghost heard = { λ a. a };
 
     ghost some_state = { [] };
 

@@ -13,8 +13,8 @@ pub returns-clause-ran : goal.returns-clause-ran
 returns-clause-ran g c =
     let same = c.give_lock.ensures.table ∙ c.load-pass-inside.ensures.0 ∙ c.apply-answer.ensures.table ∙ c.take_lock.ensures.table in
     let freed = ap (λ m. m.0) c.give_lock.ensures.free ∙ ap (λ m. released m.0) c.load-pass-inside.ensures.2.0 in
-    subst (λ p. IfOk c.apply-answer.result (λ reply. (place : ℕ) × Acts g.E.Engine.machine p (sight c.give_lock.new.seat.table_id c.give_lock.new.seat.me.0) (Ran place c.args.cmd reply))) c.pass.view_is
-    (ran g.E.Engine.machine (Lodges g.E.Engine.state g.E.Engine.machine) _ _ _ _ _ same c.pass.invariant.own c.take_lock.ensures.entered _ _ c.args.cmd c.apply-answer.result c.pass.invariant.numbered freed c.apply-answer.ensures.reply c.apply-answer.ensures.grown)
+    subst (λ p. IfOk c.apply-answer.result (λ reply. (place : ℕ) × Acts g.E.Engine.machine p (sight c.give_lock.new.seat.table_id c.give_lock.new.seat.me.0) (Ran place c.args.cmd (g.E.Engine.told reply)))) c.pass.view_is
+    (ran g.E.Engine.machine (Lodges g.E.Engine.state g.E.Engine.machine) _ _ _ _ _ same c.pass.invariant.own c.take_lock.ensures.entered g.E.Engine.told _ _ c.args.cmd c.apply-answer.result c.pass.invariant.numbered freed c.apply-answer.ensures.reply c.apply-answer.ensures.grown)
 
 pub returns-clause-refused : goal.returns-clause-refused
 returns-clause-refused g c =
