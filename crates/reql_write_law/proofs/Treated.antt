@@ -1,5 +1,6 @@
 -- What a write makes of a document at a key is a change of what is there, to a document that has this key; so each change comes, and a good table stays one.
 use Rattle.std.proofs.Common.{◌≡◌, refl, sym, subst, ap, ◌∙◌, Bool, true, false, is_eq, List, [], ◌∷◌, ◌++◌, map, if◌then◌else◌, Option, Some, None, Ok, Err}
+use Rattle.std.specs.List.{AllByRecursion}
 use Rattle.reql_datum.specs.Answer.{Answer, ◌>>=◌}
 use Rattle.reql_datum.specs.Kinds.{is_storable}
 use Rattle.reql_datum.specs.Order.{order}
@@ -16,7 +17,7 @@ use Rattle.reql_rules.specs.Merging.{merge}
 use Rattle.reql_rules.specs.Patterns.{holds}
 use Rattle.reql_rules.specs.Types.{same, as_object}
 use Rattle.reql_bag.proofs.Rising.{equal_is}
-use Rattle.reql_write_law.specs.Laws.{AllCome, ChangesCome, IsGoodDocument, IsGood, GoodTablesStay}
+use Rattle.reql_write_law.specs.Laws.{AllCome, ChangesCome, IsGoodDocument, IsLeftGood, ChangesLeaveGood, IsGood, GoodTablesStay}
 use Rattle.reql_write_law.specs.Selecting.{selected}
 use Rattle.reql_write_law.specs.Treated.{Treated, inserted, replaced, deleted, unchanged, skipped, failed, Changed, changes_of, changed, changed_by}
 use Rattle.reql_write_law.specs.Treating.{key_changed, or_failed, standing, storing, field_in, keeping_stored, key_of, by_key, met, inserting, keyed, given_by, updated, updating, without_doc, replaced_by, replacing, treat_all, at_key}
@@ -158,6 +159,30 @@ module _ (field : Bytes) where
   come_in docs (Ok ts) h = all_come docs ts h
   come_in docs (Err e) h = tt
 
+  -- ---- what each leaves is good
+  abbrev AllLeft : List Changed → Type 0
+  AllLeft cs = AllByRecursion (λ (c : Changed). IsLeftGood field c.key c.new) cs
+
+  change_leaves : (old : Option Plain) (key : Plain) (t : Treated) → IsOf field key old t → AllLeft (changes_of t)
+  change_leaves old key (inserted k new) h = (subst (λ z. IsGoodDocument field z new) (sym h.0) h.2, tt)
+  change_leaves old key (replaced k o new) h = (subst (λ z. IsGoodDocument field z new) (sym h.0) h.3, tt)
+  change_leaves old key (deleted k o) h = (tt, tt)
+  change_leaves old key (unchanged d) h = tt
+  change_leaves old key skipped h = tt
+  change_leaves old key (failed why d) h = tt
+
+  leave_on : (cs ds : List Changed) → AllLeft cs → AllLeft ds → AllLeft (cs ++ ds)
+  leave_on [] ds h k = k
+  leave_on (c ∷ cs) ds h k = (h.0, leave_on cs ds h.1 k)
+
+  all_leave : (docs : List Document) (ts : List Treated) → AllFit docs ts → AllLeft (joined (map changes_of ts))
+  all_leave docs [] h = tt
+  all_leave docs (t ∷ ts) h = leave_on (changes_of t) (joined (map changes_of ts)) (change_leaves (find_by order h.0.0 docs) h.0.0 t h.0.1) (all_leave (changed_by docs (changes_of t)) ts h.1)
+
+  leave_in : (docs : List Document) (a : Answer (List Treated)) → AllFitIn docs a → AllLeft (all_changes a)
+  leave_in docs (Ok ts) h = all_leave docs ts h
+  leave_in docs (Err e) h = tt
+
   -- ---- a good table stays one
   put_found : (b : Bool) (q key new doc : Plain) (docs : List Document) → is_eq (order q key) ≡ b → IsGood field docs → IsGoodDocument field key new
       → (if b then Some new else find_by order q docs) ≡ Some doc → IsGoodDocument field q doc
@@ -203,6 +228,9 @@ module _ (field : Bytes) where
 
 pub changes_come : ChangesCome
 changes_come docs indexes cmd = come_in cmd.key docs (treated cmd.key docs indexes cmd.act) (treated_fit cmd.key docs indexes cmd.act)
+
+pub changes_leave_good : ChangesLeaveGood
+changes_leave_good docs indexes cmd = leave_in cmd.key docs (treated cmd.key docs indexes cmd.act) (treated_fit cmd.key docs indexes cmd.act)
 
 pub good_tables_stay : GoodTablesStay
 good_tables_stay docs indexes cmd g = good_in cmd.key docs (treated cmd.key docs indexes cmd.act) (treated_fit cmd.key docs indexes cmd.act) g

@@ -1,5 +1,6 @@
 -- What a write's changes and counts are to its documents.
 use Rattle.std.specs.Prelude.{◌≡◌, ℕ, ◌+◌, List, [], ◌∷◌, length, Bool, true, false, Option, Some, None, option_map, ◌↔◌, Ok, Err}
+use Rattle.std.specs.List.{AllByRecursion}
 use Rattle.reql_datum.specs.Answer.{Answer}
 use Rattle.reql_datum.specs.Kinds.{is_storable}
 use Rattle.reql_datum.specs.Order.{order}
@@ -69,10 +70,19 @@ number_each (Err e) = 0
 abbrev pub ListsTell : Type 0
 ListsTell = OfWrites (λ docs indexes cmd w. option_map length w.summary.changes ≡ number_listed cmd.returns (number_each (treated cmd.key docs indexes cmd.act)) (length w.changes))
 
--- a table whose documents rise by their keys, can be stored, and have their keys in the key field
+-- a document that can be stored, and has its key in the key field
 abbrev pub IsGoodDocument : Bytes → Plain → Plain → Type 0
 IsGoodDocument field key doc = (is_storable doc ≡ true) × (field_in field doc ≡ Some key)
 
+abbrev pub IsLeftGood : Bytes → Plain → Option Plain → Type 0
+IsLeftGood field key None = Unit {0}
+IsLeftGood field key (Some doc) = IsGoodDocument field key doc
+
+-- rules out, whatever the table was, a document that is put under another key than its own, and one that may not be stored
+abbrev pub ChangesLeaveGood : Type 0
+ChangesLeaveGood = OfWrites (λ docs indexes cmd w. AllByRecursion (λ (c : Changed). IsLeftGood cmd.key c.key c.new) w.changes)
+
+-- a table whose documents rise by their keys, can be stored, and have their keys in the key field
 pub record IsGood (field : Bytes) (docs : List Document) : Type 0 where
   pub rising : AreRisingBy order docs
   pub all : (key doc : Plain) → find_by order key docs ≡ Some doc → IsGoodDocument field key doc
