@@ -50,7 +50,7 @@ without_no_nulls : (k : Plain) (docs : List Document) → AreNoNulls docs → Ar
 without_no_nulls k [] all = tt
 without_no_nulls k (d ∷ ds) all = rest_no_nulls (is_eq (order k d.0)) d ds (without_by order k ds) all.0 all.1 (without_no_nulls k ds all.1)
 
-changed_no_nulls : (k : Plain) (o : Option Plain) (docs : List Document) → IsNoNull o → AreNoNulls docs → AreNoNulls (changed k o docs)
+pub changed_no_nulls : (k : Plain) (o : Option Plain) (docs : List Document) → IsNoNull o → AreNoNulls docs → AreNoNulls (changed k o docs)
 changed_no_nulls k None docs n all = without_no_nulls k docs all
 changed_no_nulls k (Some v) docs n all = put_no_nulls k v docs n all
 
