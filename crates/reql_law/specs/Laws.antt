@@ -1,0 +1,97 @@
+-- Laws of the table machine.
+use Rattle.std.specs.Prelude.{◌≡◌, ◌≤◌, ℕ, List, [], ◌∷◌, ◌++◌, length, map, true, false}
+use Rattle.reql_datum.specs.Members.{AreRising}
+use Rattle.reql_datum.specs.Order.{order}
+use Rattle.reql_memory.specs.Sorted.{AreRisingBy}
+use Rattle.reql_term.specs.Views.{Document}
+use Rattle.reql_write_law.specs.Treated.{Changed}
+use Rattle.reql_write_law.specs.Write.{write}
+use Rattle.reql_write_law.specs.declared.command.WriteCmd.{WriteCmd}
+use Rattle.reql_feed_law.specs.Feeds.{changed_by}
+use Rattle.reql_feed_law.specs.Moving.{AreNoNulls, IsNoNull}
+use Rattle.reql_shared.specs.Acts.{Act, Ran, Looked, Denied}
+use Rattle.reql_shared.specs.Machine.{replay}
+use Rattle.reql_shared.specs.Plays.{Woven}
+use Rattle.reql_shared.specs.declared.engine.Snap.{Snap}
+use Rattle.reql_shared.specs.declared.recorded.Recorded.{Recorded}
+use Rattle.reql_table_machine.specs.Feeding.{Folds}
+use Rattle.reql_table_machine.specs.Fed as fed
+use Rattle.reql_table_machine.specs.declared.command.Cmd.{Cmd as Known}
+use Rattle.reql_table_machine.specs.declared.command.Order.{Order as Asked}
+use Rattle.reql_law.specs.Indexes.{Indexes, IndexCmd}
+use Rattle.reql_law.specs.Machine.{State, Seen, known_order, known_entry, machine, after, reply, is_recorded}
+use Rattle.reql_law.specs.Replies.{Answered}
+use Rattle.reql_law.specs.Table.{feeding, at_key}
+use Rattle.reql_law.specs.declared.command.FeedSpec.{FeedSpec}
+use Rattle.reql_law.specs.declared.command.Order.{Order}
+
+abbrev pub History : Type 0
+History = List (Recorded Order)
+
+-- what a user did on a table
+abbrev pub Done : Type 0
+Done = Act Order Answered Snap Seen
+
+-- the documents when the stamp is n, of a table from which a history goes on
+abbrev pub docs_at : State → History → ℕ → List Document
+docs_at s history n = fed.docs_at (feeding s.most) s.table (map known_entry history) n
+
+-- documents that rise by their keys, and none of which is null
+pub record AreGood (docs : List Document) : Type 0 where
+  pub rising : AreRisingBy order docs
+  pub real : AreNoNulls docs
+
+-- no change brings a null
+abbrev pub May : List Document → Changed → Type 0
+May docs x = IsNoNull x.new
+
+-- ---- a command that adds no entry leaves the table as it was: rules out a refusal, an empty Take or a late command with an effect
+abbrev pub RefusedStays : Type 0
+RefusedStays = (s : State) (by : ℕ) (o : Order) → is_recorded (reply s by o) ≡ false → after s by o ≡ s
+
+-- the documents after a history are those after all its changes: rules out a change that is counted and not made, or made and not counted
+abbrev pub DocsAtStamp : Type 0
+DocsAtStamp = (s : State) (history : History) → docs_at s history (replay machine s history).table.stamp ≡ (replay machine s history).table.docs
+
+-- the documents at a later stamp are the same seen from a later table, and those at a stamp that was reached stay: rules out that an answer of a
+-- point changes when the history goes on
+abbrev pub LaterDocs : Type 0
+LaterDocs = (s : State) (history more : History) (n : ℕ) → (replay machine s history).table.stamp ≤ n → docs_at s (history ++ more) n ≡ docs_at (replay machine s history) more n
+
+abbrev pub DocsStay : Type 0
+DocsStay = (s : State) (history more : History) (n : ℕ) → n ≤ (replay machine s history).table.stamp → docs_at s (history ++ more) n ≡ docs_at s history n
+
+-- a write leaves what writes leave: rules out a table that goes another way than its writes say
+abbrev pub WritesLand : Type 0
+WritesLand = (docs : List Document) (indexes : Indexes) (w : WriteCmd) → changed_by docs (map at_key (write docs indexes w).changes) ≡ (write docs indexes w).docs
+
+-- the documents stay good, and the indexes stay in order of their names
+abbrev pub GoodStay : Type 0
+GoodStay = (s : State) (history : History) → AreGood s.table.docs → AreGood (replay machine s history).table.docs
+
+abbrev pub IndexesStay : Type 0
+IndexesStay = (s : State) (history : History) → AreRising s.table.indexes → AreRising (replay machine s history).table.indexes
+
+-- what an engine is by its making stays: rules out limits that a command moves
+abbrev pub MakingStays : Type 0
+MakingStays = (s : State) (history : History) → replay machine s history ≡ record s { table = (replay machine s history).table }
+
+-- ---- every kind of feed folds, over good documents
+abbrev pub KindsFold : Type 0
+KindsFold = (most : ℕ) → Folds (feeding most) AreGood May
+
+-- the acts of a user, as the machine of tables knows them
+abbrev pub known_act : Done → Act (Asked (Known WriteCmd IndexCmd FeedSpec)) Answered (Unit {0}) Seen
+known_act (Ran place o r) = Ran place (known_order o) r
+known_act (Looked place q x) = Looked place tt x
+known_act (Denied place) = Denied place
+
+-- each feed that a user opened by its acts along a history folds to its query, evaluated over the documents of any moment up to which its answers are whole
+abbrev pub AllFed : State → History → List Done → Type 0
+AllFed s history acts = fed.AllFed (feeding s.most) s.table (map known_entry history) (map known_act acts)
+
+-- rules out an item that is lost, told twice, out of order, or to another, but for a skip that was told
+abbrev pub FeedsFold : Type 0
+FeedsFold = (s : State) (before during later : History) (by : ℕ) (acts : List Done)
+    → AreGood s.table.docs → s.table.feeds ≡ [] → Woven machine (replay machine s before) by (length before) acts during
+    → AllFed s (before ++ (during ++ later)) acts

@@ -1,0 +1,7 @@
+pub mod Limits
+pub mod Indexes
+pub mod Followed
+pub mod Replies
+pub mod Table
+pub mod Machine
+pub mod Laws

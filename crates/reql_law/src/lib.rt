@@ -1,0 +1,17 @@
+//! The table machine: commands, replies and feeds of a table, as types, definitions and laws. It is all
+//! that the crates above know of a table.
+#![tactic(auto)]
+
+mod command;
+mod engine;
+mod limits;
+mod reply;
+
+pub use command::{Cmd, Entry, FeedSpec, Order};
+pub use engine::{Kept, MachineState, TableEngine};
+pub use limits::Limits;
+pub use reply::{Heard, Reply, Said, Saved, Told};
+pub use reql_datum::Point;
+pub use reql_feed_law::FeedKind;
+pub use reql_table_machine::Look;
+pub use reql_write_law::{Act, Conflict, Returns, Summary, WriteCmd};
