@@ -4,11 +4,13 @@
 
 mod command;
 mod engine;
+mod laws;
 mod limits;
 mod reply;
 
 pub use command::{Cmd, Entry, FeedSpec, Order};
 pub use engine::{Kept, MachineState, TableEngine};
+pub use laws::{feed_kinds_fold, feeds_of_histories_fold, table_laws};
 pub use limits::Limits;
 pub use reply::{Heard, Reply, Said, Saved, Told};
 pub use reql_datum::Point;

@@ -1,0 +1,4 @@
+pub mod Replays
+pub mod Folding
+pub mod Weaves
+pub mod Stays
