@@ -5,3 +5,4 @@ pub mod Replies
 pub mod Table
 pub mod Machine
 pub mod Laws
+pub mod Worked

@@ -7,6 +7,7 @@ mod engine;
 mod laws;
 mod limits;
 mod reply;
+mod rows;
 
 pub use command::{Cmd, Entry, FeedSpec, Order};
 pub use engine::{Kept, MachineState, TableEngine};
@@ -17,3 +18,4 @@ pub use reql_datum::Point;
 pub use reql_feed_law::FeedKind;
 pub use reql_table_machine::Look;
 pub use reql_write_law::{Act, Conflict, Returns, Summary, WriteCmd};
+pub use rows::worked_rows;
