@@ -68,6 +68,13 @@ module _ {S C R Q A D : Type 0} (machine : Machine S C R Q A) (lodges : S → Li
   )
   ran told n number cmd (Err x) numbered freed reply grew = tt
 
+  -- what an engine tells, it tells in a state to which some history leads
+  pub tells_on : {E X : Type 0} (state : E → S) (tells : E → E → ℕ → X → Type 0) (number : ℕ) (result : Result X (Refused C)) → v.number ≡ number
+      → IfOk result (λ r. (old new : E) × (state old ≡ replay machine m.0.start m.0.seen) × tells old new number r)
+      → IfOk result (λ r. (before : List (Recorded C)) × (old new : E) × (state old ≡ replay machine v.start before) × tells old new v.number r)
+  tells_on state tells number (Ok r) numbered h = (m.0.seen, h.0, h.1, h.2 ∙ (λ k. replay machine (e.now k).0.start m.0.seen), subst (λ k. tells h.0 h.1 k r) (sym numbered) h.3)
+  tells_on state tells number (Err x) numbered h = tt
+
   stayed : w ≡ released m.0 → w ≡ back v e.log (e.log ++ [])
   stayed is = is ∙ (λ k. released (e.now k).0) ∙ ap (back v e.log) (sym (append-nil e.log))
 

@@ -1,4 +1,4 @@
-ghost use Rattle.std.specs.Prelude.{◌≡◌, ℕ, ◌+◌, ◌^◌, ◌<◌, true, false, IfOk, IfErr};
+ghost use Rattle.std.specs.Prelude.{◌≡◌, ℕ, ◌+◌, ◌^◌, ◌<◌, true, false, Option, Some, None, IfOk, IfErr};
 ghost use Rattle.reql_shared.specs.Machine.{Machine};
 
 use reql_memory::{Memory, Refused};
@@ -34,6 +34,10 @@ pub trait Engine {
 
     ghost heard: { Self.Answer → Self.Heard };
 
+    // What an engine tells of a command beside what its machine says: of the engine before it and
+    // after it, of who gave which command, and of the reply, or none where memory was wanted.
+    ghost tells: { Self → Self → ℕ → Self.Cmd → Option Self.Reply → Type 0 };
+
     // Some state or other, which stands where no state is meant.
     ghost some_state: { Self.State };
 
@@ -49,6 +53,8 @@ pub trait Engine {
             → machine.place (state self.old) + 1 < 2 ^ 64) }
         ensures same { IfOk result (λ r. machine.recorded (told r) ≡ false
             → state self.new ≡ state self.old) }
+        ensures tells { IfOk result (λ r. tells self.old self.new by cmd (Some r)) }
+        ensures quiet { IfErr result (λ refused. tells self.old self.new by cmd None) }
         ensures back { IfErr result (λ refused. refused.back ≡ cmd) }
         ensures refused { IfErr result (λ refused. state self.new ≡ state self.old) };
 

@@ -1,4 +1,5 @@
-ghost use Rattle.std.specs.Prelude.{◌≡◌, ℕ, true, IfOk, IfErr};
+ghost use Rattle.std.specs.Prelude.{◌≡◌, ℕ, List, Some, true, IfOk, IfErr};
+ghost use Rattle.reql_shared.specs.declared.recorded.Recorded.{Recorded};
 ghost use Rattle.reql_shared.specs.History.{noted};
 ghost use Rattle.reql_shared.specs.Machine.{replay};
 ghost use Rattle.reql_shared.specs.Acts.{Ran, Denied, Acts};
@@ -29,6 +30,9 @@ impl<E: Engine + Drop> Shared<E> {
         ensures number { pass.new.number ≡ pass.old.number }
         ensures ran { IfOk result (λ reply. (place : ℕ)
             × Acts E.machine pass.old pass.new (Ran place cmd (E.told reply))) }
+        ensures tells { IfOk result (λ reply. (before : List (Recorded E.Cmd)) × (old new : E)
+            × (E.state old ≡ replay E.machine pass.old.object.start before)
+            × E.tells old new pass.old.number cmd (Some reply)) }
         ensures refused { IfErr result (λ refused. (place : ℕ)
             × Acts E.machine pass.old pass.new (Denied place)) }
         ensures back { IfErr result (λ refused. refused.back ≡ cmd) }
@@ -58,6 +62,9 @@ fn apply<E: Engine + Drop>(
     ensures held { IsIn (Lodges E.state E.machine) seat.new.me }
     ensures reply { IfOk result (λ r. E.told r ≡ E.machine.reply
         (replay E.machine seat.old.me.0.start seat.old.me.0.seen) number cmd) }
+    ensures tells { IfOk result (λ r. (old new : E) × (E.state old
+        ≡ replay E.machine seat.old.me.0.start seat.old.me.0.seen)
+        × E.tells old new number cmd (Some r)) }
     ensures grown { IfOk result (λ r. seat.new.me.0 ≡ grown (E.machine.recorded (E.told r)) seat.old.me.0
         (noted number cmd)) }
     ensures refused { IfErr result (λ r. (r.back ≡ cmd) × (seat.new.me.0 ≡ seat.old.me.0)) }

@@ -34,6 +34,8 @@ impl Engine for Adder {
 
     ghost heard = { λ a. a };
 
+    ghost tells = { λ old new by cmd reply. Unit {0} };
+
     ghost some_state = { (0, 0) };
 
     fn apply(&mut self, _by: u64, cmd: u64) -> Result<Option<u64>, Refused<u64>> {

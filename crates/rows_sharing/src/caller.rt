@@ -34,6 +34,8 @@ impl Engine for Callers {
 
     ghost heard = { λ a. a };
 
+    ghost tells = { λ old new by cmd reply. Unit {0} };
+
     ghost some_state = { [] };
 
     fn apply(&mut self, by: u64, cmd: ()) -> Result<u64, Refused<()>> {
