@@ -3,3 +3,5 @@ pub mod Folding
 pub mod Weaves
 pub mod Stays
 pub mod Worked
+pub mod Records
+pub mod Reading

@@ -1,5 +1,5 @@
 -- Laws of the table machine.
-use Rattle.std.specs.Prelude.{◌≡◌, ◌≤◌, ℕ, List, [], ◌∷◌, ◌++◌, length, map, true, false}
+use Rattle.std.specs.Prelude.{◌≡◌, ◌≤◌, ◌<◌, ◌^◌, ℕ, suc, List, [], ◌∷◌, ◌++◌, length, map, true, false}
 use Rattle.reql_datum.specs.Members.{AreRising}
 use Rattle.reql_datum.specs.Order.{order}
 use Rattle.reql_memory.specs.Sorted.{AreRisingBy}
@@ -21,7 +21,7 @@ use Rattle.reql_table_machine.specs.declared.command.Order.{Order as Asked}
 use Rattle.reql_law.specs.Indexes.{Indexes, IndexCmd}
 use Rattle.reql_law.specs.Machine.{State, Seen, known_order, known_entry, machine, after, reply, is_recorded}
 use Rattle.reql_law.specs.Replies.{Answered}
-use Rattle.reql_law.specs.Table.{feeding, at_key}
+use Rattle.reql_law.specs.Table.{Kept, feeding, at_key}
 use Rattle.reql_law.specs.declared.command.FeedSpec.{FeedSpec}
 use Rattle.reql_law.specs.declared.command.Order.{Order}
 
@@ -48,6 +48,16 @@ May docs x = IsNoNull x.new
 -- ---- a command that adds no entry leaves the table as it was: rules out a refusal, an empty Take or a late command with an effect
 abbrev pub RefusedStays : Type 0
 RefusedStays = (s : State) (by : ℕ) (o : Order) → is_recorded (reply s by o) ≡ false → after s by o ≡ s
+
+-- a command that adds an entry adds one to the place, and place and stamp stay numbers of a u64: rules out an entry that is not counted, and a number
+-- that wraps
+pub record IsRecorded (t u : Kept) : Type 0 where
+  pub place : u.place ≡ suc t.place
+  pub room : u.place < 2 ^ 64
+  pub stamp : u.stamp < 2 ^ 64
+
+abbrev pub RecordedFit : Type 0
+RecordedFit = (s : State) (by : ℕ) (o : Order) → is_recorded (reply s by o) ≡ true → IsRecorded s.table (after s by o).table
 
 -- the documents after a history are those after all its changes: rules out a change that is counted and not made, or made and not counted
 abbrev pub DocsAtStamp : Type 0

@@ -6,3 +6,5 @@ pub mod Table
 pub mod Machine
 pub mod Laws
 pub mod Worked
+pub mod Engines
+pub mod Reading

@@ -1,12 +1,15 @@
 // Laws of the table machine, each a clause of a function that does nothing.
-ghost use Rattle.reql_law.specs.Laws.{RefusedStays, DocsAtStamp, LaterDocs, DocsStay, WritesLand, GoodStay, IndexesStay, MakingStays, KindsFold, FeedsFold};
+ghost use Rattle.reql_law.specs.Reading.{PointsAreRead, RangesAreRead, NamedRangesAreRead, LimitsAreRead, LimitsByKeyAreRead};
+ghost use Rattle.reql_law.specs.Laws.{RefusedStays, RecordedFit, DocsAtStamp, LaterDocs, DocsStay, WritesLand, GoodStay, IndexesStay, MakingStays, KindsFold, FeedsFold};
 
-/// A command that adds no entry leaves the table as it was. The documents of a table are those after
-/// all changes of its history, and those at a stamp stay the same when the history goes on. A write
-/// leaves what writes leave. Documents stay in order of their keys and no nulls, and indexes in order
-/// of their names; limits, and how an engine was made, stay.
+/// A command that adds no entry leaves the table as it was, and one that does adds one to the place;
+/// places and stamps are numbers of a u64. The documents of a table are those after all changes of
+/// its history, and those at a stamp stay the same when the history goes on. A write leaves what
+/// writes leave. Documents stay in order of their keys and no nulls, and indexes in order of their
+/// names; limits, and how an engine was made, stay.
 pub fn table_laws()
     ensures refused { RefusedStays }
+    ensures recorded { RecordedFit }
     ensures docs { DocsAtStamp }
     ensures later { LaterDocs }
     ensures stay { DocsStay }
@@ -26,4 +29,15 @@ pub fn feed_kinds_fold()
 /// over the documents of any moment up to which its answers are whole.
 pub fn feeds_of_histories_fold()
     ensures { FeedsFold }
+{}
+
+/// Requests of feeds as they are planned are read for what they mean: GET of a key, a range shape by
+/// its index or none, and the first of an order by an index or by primary key. By `term_laws` of
+/// reql_feed_law what such a term gives over a table is then the value of its feed.
+pub fn requests_are_read()
+    ensures points { PointsAreRead }
+    ensures ranges { RangesAreRead }
+    ensures named_ranges { NamedRangesAreRead }
+    ensures limits { LimitsAreRead }
+    ensures limits_by_key { LimitsByKeyAreRead }
 {}
