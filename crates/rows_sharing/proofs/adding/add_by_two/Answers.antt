@@ -15,6 +15,6 @@ adder_send = search sendable
 pub join_mut-requires-send-F : goal.join_mut-requires-send-F
 join_mut-requires-send-F g c κs within =
     let number : RattleType = (u64-field).row in
-    let p = pass_send adder.the_row number (option.the_row number) (unit-field).row number (Tuple (number ∷ number ∷ [])) engine.ghosts adder_send in
-    let s = shared_sync adder.the_row number (option.the_row number) (unit-field).row number (Tuple (number ∷ number ∷ [])) engine.ghosts adder_send in
+    let p = pass_send adder.the_row number (option.the_row number) (unit-field).row number (Tuple (number ∷ number ∷ [])) (option.the_row number) number engine.ghosts adder_send in
+    let s = shared_sync adder.the_row number (option.the_row number) (unit-field).row number (Tuple (number ∷ number ∷ [])) (option.the_row number) number engine.ghosts adder_send in
     search sendable depth 20

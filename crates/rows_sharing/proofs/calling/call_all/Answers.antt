@@ -15,10 +15,10 @@ callers_send = search (sendable, crosses) depth 20
 
 pub for_each_mut-requires-sync-F : goal.for_each_mut-requires-sync-F
 for_each_mut-requires-sync-F g c κs within =
-    let s = shared_sync callers.the_row (unit-field).row (u64-field).row (unit-field).row (seq.the_row (u64-field).row) (linked.the_row (u64-field).row global.the_row heap.ghosts) engine.ghosts callers_send in
+    let s = shared_sync callers.the_row (unit-field).row (u64-field).row (unit-field).row (seq.the_row (u64-field).row) (linked.the_row (u64-field).row global.the_row heap.ghosts) (u64-field).row (linked.the_row (u64-field).row global.the_row heap.ghosts) engine.ghosts callers_send in
     search sendable depth 20
 
 pub for_each_mut-requires-send-T : goal.for_each_mut-requires-send-T
 for_each_mut-requires-send-T g c κs within =
-    let p = pass_send callers.the_row (unit-field).row (u64-field).row (unit-field).row (seq.the_row (u64-field).row) (linked.the_row (u64-field).row global.the_row heap.ghosts) engine.ghosts callers_send in
+    let p = pass_send callers.the_row (unit-field).row (u64-field).row (unit-field).row (seq.the_row (u64-field).row) (linked.the_row (u64-field).row global.the_row heap.ghosts) (u64-field).row (linked.the_row (u64-field).row global.the_row heap.ghosts) engine.ghosts callers_send in
     search (sendable, crosses) depth 20
