@@ -19,7 +19,7 @@ use Rattle.reql_table_machine.specs.declared.command.Said.{Said}
 use Rattle.reql_table_machine.specs.declared.command.Said.TheVariants as said
 use Rattle.reql_table_machine.proofs.Reach as of_tables
 use Rattle.reql_law.specs.Indexes.{Indexes, IndexCmd}
-use Rattle.reql_law.specs.Laws.{History, docs_at, RefusedStays, DocsAtStamp, LaterDocs, DocsStay, MakingStays}
+use Rattle.reql_law.specs.Laws.{History, docs_at, RefusedStays, DocsAtStamp, StampCounts, LaterDocs, DocsStay, MakingStays}
 use Rattle.reql_law.specs.Machine.{State, Seen, known_cmd, known_entry, machine, after, reply}
 use Rattle.reql_law.specs.Replies.{Answered}
 use Rattle.reql_law.specs.Table.{Kept, Held, feeding}
@@ -61,6 +61,9 @@ making_stays s history = replay_is s history ∙ sym (ap (λ (z : State). beside
 
 pub docs_at_stamp : DocsAtStamp
 docs_at_stamp s history = subst (λ (z : State). docs_at s history z.table.stamp ≡ z.table.docs) (sym (replay_is s history)) (of_tables.docs_at_stamp (feeding s.most) s.table (map known_entry history))
+
+pub stamp_counts : StampCounts
+stamp_counts s history = ap (λ (z : State). z.table.stamp) (replay_is s history) ∙ (of_tables.reach (feeding s.most) s.table (map known_entry history)).1
 
 pub later_docs : LaterDocs
 later_docs s history more n le =

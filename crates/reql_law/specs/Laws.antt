@@ -1,5 +1,5 @@
 -- Laws of the table machine.
-use Rattle.std.specs.Prelude.{◌≡◌, ◌≤◌, ◌<◌, ◌^◌, ℕ, suc, List, [], ◌∷◌, ◌++◌, length, map, true, false}
+use Rattle.std.specs.Prelude.{◌≡◌, ◌≤◌, ◌<◌, ◌^◌, ℕ, suc, ◌+◌, List, [], ◌∷◌, ◌++◌, length, map, true, false}
 use Rattle.reql_datum.specs.Members.{AreRising}
 use Rattle.reql_datum.specs.Order.{order}
 use Rattle.reql_memory.specs.Sorted.{AreRisingBy}
@@ -36,6 +36,10 @@ Done = Act Order Answered Snap Seen
 abbrev pub docs_at : State → History → ℕ → List Document
 docs_at s history n = fed.docs_at (feeding s.most) s.table (map known_entry history) n
 
+-- the single-document changes that a history makes, from a table on
+abbrev pub changes : State → History → List Changed
+changes s history = fed.changes_from (feeding s.most) s.table (map known_entry history)
+
 -- documents that rise by their keys, and none of which is null
 pub record AreGood (docs : List Document) : Type 0 where
   pub rising : AreRisingBy order docs
@@ -62,6 +66,10 @@ RecordedFit = (s : State) (by : ℕ) (o : Order) → is_recorded (reply s by o) 
 -- the documents after a history are those after all its changes: rules out a change that is counted and not made, or made and not counted
 abbrev pub DocsAtStamp : Type 0
 DocsAtStamp = (s : State) (history : History) → docs_at s history (replay machine s history).table.stamp ≡ (replay machine s history).table.docs
+
+-- the stamp counts the changes: rules out a change that two stamps have, or none
+abbrev pub StampCounts : Type 0
+StampCounts = (s : State) (history : History) → (replay machine s history).table.stamp ≡ s.table.stamp + length (changes s history)
 
 -- the documents at a later stamp are the same seen from a later table, and those at a stamp that was reached stay: rules out that an answer of a
 -- point changes when the history goes on

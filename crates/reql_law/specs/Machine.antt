@@ -15,6 +15,7 @@ use Rattle.reql_law.specs.Replies.{Answered}
 use Rattle.reql_law.specs.Table.{Kept, feeding, opening}
 use Rattle.reql_law.specs.declared.command.Cmd.{Cmd}
 use Rattle.reql_law.specs.declared.command.Cmd.TheVariants as cmds
+use Rattle.reql_law.specs.declared.command.Entry.{Entry}
 use Rattle.reql_law.specs.declared.command.FeedSpec.{FeedSpec}
 use Rattle.reql_law.specs.declared.command.Order.{Order}
 
@@ -44,6 +45,10 @@ known_order o = record { points = o.points; cmd = known_cmd o.cmd }
 abbrev pub known_entry : Recorded Order → Recorded (Asked (Known WriteCmd IndexCmd FeedSpec))
 known_entry e = record { by = e.by; cmd = known_order e.cmd }
 
+-- an entry of a table's history, as a shared history has it
+abbrev pub entry_of : Entry → Recorded Order
+entry_of e = record { by = e.by; cmd = e.order }
+
 abbrev pub after : State → ℕ → Order → State
 after s by order = record s { table = after_cmd (feeding s.most) s.table by (known_cmd order.cmd) }
 
@@ -67,6 +72,9 @@ is_recorded r = adds (feeding 0) r.said
 abbrev pub machine : Machine State Order Answered Snap Seen
 machine = record { reply = reply; recorded = is_recorded; after = after; answer = λ s q. seen s; place = λ s. s.table.place }
 
--- an engine that nobody has used, over an opening table
-abbrev pub unused : ℕ → List Document → Indexes → State
-unused most docs indexes = record { table = opening docs indexes; most = most; sound = true; journaled = false }
+-- an engine without a disk that nobody has used: over a table that was kept, which may have been dropped, and over an empty one
+abbrev pub opened : ℕ → List Document → Indexes → Bool → State
+opened most docs indexes shut = record { table = record (opening docs indexes) { shut = shut }; most = most; sound = true; journaled = false }
+
+abbrev pub unused : ℕ → State
+unused most = opened most [] [] false

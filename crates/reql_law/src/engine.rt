@@ -1,16 +1,8 @@
 // The engine of a table.
-ghost use Rattle.std.specs.Prelude.{◌≡◌, ◌≤◌, ℕ, Option, Some, None, List, [], map, false, option_map};
+ghost use Rattle.std.specs.Prelude.{◌≡◌, ℕ, Option, List, [], map};
 ghost use Rattle.reql_datum.specs.Plain.{Plain};
-ghost use Rattle.reql_value.specs.Index.{index_lists};
-ghost use Rattle.reql_table_machine.specs.Fed.{changes_at};
-ghost use Rattle.reql_law.specs.Engines.{Risen, kept_of};
+ghost use Rattle.reql_law.specs.Engines.{TellsAll, ShowsTables, HoldsEntries, FaultsStay, FailsByFaults, KeepsChanges, kept_of};
 ghost use Rattle.reql_law.specs.Machine as law;
-ghost use Rattle.reql_law.specs.Replies.{told_of};
-ghost use Rattle.reql_law.specs.Table.{feeding, at_key};
-ghost use Rattle.reql_table_machine.specs.declared.command.Look.{Look};
-ghost use Rattle.reql_law.specs.declared.command.Order.{Order};
-ghost use Rattle.reql_law.specs.declared.reply.Reply.{Reply};
-ghost use Rattle.reql_law.specs.declared.reply.Saved.TheVariants.{Failed};
 
 use crate::command::Order;
 use crate::reply::{Heard, Reply, Told};
@@ -27,7 +19,6 @@ pub struct MachineState {
 }
 
 impl Model for MachineState {
-    ghost use Rattle.std.specs.Prelude.{[]};
     ghost use Rattle.std.specs.Coded.{codes};
     ghost use Rattle.reql_datum.specs.Code.{plain_code, list_code, pairs_code};
     ghost use Rattle.reql_term.specs.FormCode.{form_code};
@@ -37,7 +28,7 @@ impl Model for MachineState {
 
     ghost coded = { Prim.hlevel (codes, plain_code, list_code, pairs_code, form_code) };
 
-    ghost view = { λ s. unused 0 [] [] };
+    ghost view = { λ s. unused 0 };
 }
 
 /// The engine of a table: its replies and answers are those of the table machine.
@@ -59,20 +50,19 @@ pub trait TableEngine: Engine<
 
     ghost faults: { Self → ℕ };
 
-    // Its machine is the table machine; a reply tells what the machine says but for `saved`; and a look
-    // tells the documents and the indexes of its view, whose indexes hold the entries of their definitions.
+    // Its machine is the table machine; a reply tells what the machine says, and beside it whether it
+    // was saved; and a look tells the documents and the indexes of its view, which holds their entries.
     ghost is_machine: { Self.machine ≡ law.machine };
 
-    ghost is_told: { (r : Reply) → Self.told r ≡ told_of r };
+    ghost tells_all: { TellsAll Self.told };
 
-    ghost is_heard: { (l : Look Self.View) → Self.heard l ≡ record { place = l.place; stamp = l.stamp; view = option_map (λ v. (Self.View.documents v, Self.View.indexes v)) l.view } };
+    ghost shows: { ShowsTables Self.View.documents Self.View.indexes Self.heard };
 
-    ghost are_entries: { (v : Self.View) (name : List ℕ) → Self.View.entries v name ≡ index_lists (Self.View.documents v) (Self.View.indexes v) name };
+    ghost holds: { HoldsEntries Self.View.documents Self.View.indexes Self.View.entries };
 
-    // The count of faults never falls, and rises where a command was not saved; a sound engine saves all.
-    ghost faults_stay: { (old new : Self) (by : ℕ) (o : Order) (r : Option Reply) → Self.tells old new by o r → faults old ≤ faults new };
+    ghost faults_stay: { FaultsStay Self.tells faults };
 
-    ghost failed: { (old new : Self) (by : ℕ) (o : Order) (r : Reply) → Self.tells old new by o (Some r) → r.saved ≡ Failed → Risen (faults old) (faults new) × ((Self.state old).sound ≡ false) };
+    ghost fails: { FailsByFaults Self.tells Self.state faults };
 }
 
 /// One change of a command: a key, and the document that is there after it.
@@ -94,5 +84,5 @@ pub trait Keeping: TableEngine {
         ensures state { Self.state self.new ≡ Self.state self.old }
         ensures faults { Self.faults self.new ≡ Self.faults self.old };
 
-    ghost keeps: { (old new : Self) (by : ℕ) (o : Order) (r : Reply) → Self.tells old new by o (Some r) → kept new ≡ map at_key (changes_at (feeding (Self.state old).most) (Self.state old).table by (law.known_cmd o.cmd)) };
+    ghost keeps: { KeepsChanges Self.tells Self.state kept };
 }
