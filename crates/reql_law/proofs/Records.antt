@@ -16,7 +16,7 @@ use Rattle.reql_table_machine.proofs.Tracking.{split}
 use Rattle.reql_law.specs.Indexes.{IndexCmd}
 use Rattle.reql_law.specs.Laws.{IsRecorded, RecordedFit}
 use Rattle.reql_law.specs.Machine.{State, known_cmd, reply}
-use Rattle.reql_law.specs.Table.{Kept, Held, feeding, held}
+use Rattle.reql_law.specs.Table.{DocumentTable, Held, feeding, held}
 use Rattle.reql_law.specs.declared.command.FeedSpec.{FeedSpec}
 use Rattle.reql_law.proofs.Replays.{adds_any}
 
@@ -32,11 +32,11 @@ not_second true b h g = g
 not_second false b h g = absurd (cc (h))
 
 module _ (most : ℕ) where
-  opened_place : (t : Kept) (who : ℕ) (k : Option Held) → (opened_in (feeding most) t who k).place ≡ t.place
+  opened_place : (t : DocumentTable) (who : ℕ) (k : Option Held) → (opened_in (feeding most) t who k).place ≡ t.place
   opened_place t who None = refl
   opened_place t who (Some k) = split (nat_lt (length t.feeds) most) (λ b. (cond b (record t { feeds = t.feeds ++ new_feed (feeding most) t who k ∷ [] }) t).place ≡ t.place) (λ _. refl) (λ _. refl)
 
-  effect_place : (t : Kept) (who : ℕ) (cmd : Told) → (effect (feeding most) t who cmd).place ≡ t.place
+  effect_place : (t : DocumentTable) (who : ℕ) (cmd : Told) → (effect (feeding most) t who cmd).place ≡ t.place
   effect_place t who (known.Write w) = changes_place (feeding most) (write t.docs t.indexes w).changes t
   effect_place t who (known.Index c) = refl
   effect_place t who (known.Subscribe p) = opened_place t who (held t.indexes p)
@@ -45,20 +45,20 @@ module _ (most : ℕ) where
   effect_place t who known.Shut = refl
   effect_place t who known.Sync = refl
 
-  room_for : (t : Kept) (x : Said Summary Plain) → adds (feeding most) (if_room (feeding most) t x) ≡ true → is_past (feeding most) t ≡ false
+  room_for : (t : DocumentTable) (x : Said Summary Plain) → adds (feeding most) (if_room (feeding most) t x) ≡ true → is_past (feeding most) t ≡ false
   room_for t x = split (adds (feeding most) x && is_past (feeding most) t) (λ b. adds (feeding most) (cond b (said.HistoryFull (2 ^ 64 - 1)) x) ≡ true → is_past (feeding most) t ≡ false)
       (λ e h. absurd (cc (h))) (λ e h. not_second (adds (feeding most) x) (is_past (feeding most) t) h e)
 
-  fits : (t u : Kept) → u.place ≡ suc t.place → is_past (feeding most) u ≡ false → IsRecorded t u
+  fits : (t u : DocumentTable) → u.place ≡ suc t.place → is_past (feeding most) u ≡ false → IsRecorded t u
   fits t u up past =
       let n = neither (nat_lt (2 ^ 64 - 1) u.place) (nat_lt (2 ^ 64 - 1) u.stamp) past in
       let p : u.place ≤ 2 ^ 64 - 1 = ltb-false (2 ^ 64 - 1) u.place n.0 in
       let q : u.stamp ≤ 2 ^ 64 - 1 = ltb-false (2 ^ 64 - 1) u.stamp n.1 in
       record { place = up; room = omega (arith, p); stamp = omega (arith, q) }
 
-  recorded : (t : Kept) (who : ℕ) (cmd : Told) → adds (feeding most) (answer (feeding most) t who cmd) ≡ true → IsRecorded t (after_cmd (feeding most) t who cmd)
+  recorded : (t : DocumentTable) (who : ℕ) (cmd : Told) → adds (feeding most) (answer (feeding most) t who cmd) ≡ true → IsRecorded t (after_cmd (feeding most) t who cmd)
   recorded t who cmd h =
-      let u : Kept = one_more (feeding most) (effect (feeding most) t who cmd) in
+      let u : DocumentTable = one_more (feeding most) (effect (feeding most) t who cmd) in
       subst (IsRecorded t) (sym (ap (λ b. cond b u t) h)) (fits t u (ap (λ n. suc n) (effect_place t who cmd)) (room_for u _ h))
 
 pub recorded_fit : RecordedFit

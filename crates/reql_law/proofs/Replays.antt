@@ -19,20 +19,20 @@ use Rattle.reql_table_machine.specs.declared.command.Said.{Said}
 use Rattle.reql_table_machine.specs.declared.command.Said.TheVariants as said
 use Rattle.reql_table_machine.proofs.Reach as of_tables
 use Rattle.reql_law.specs.Indexes.{Indexes, IndexCmd}
-use Rattle.reql_law.specs.Laws.{History, docs_at, RefusedStays, DocsAtStamp, StampCounts, LaterDocs, DocsStay, MakingStays}
+use Rattle.reql_law.specs.Laws.{History, docs_at, RefusedStays, DocsAtStamp, StampCounts, LaterDocs, DocsStay, TablesStay, MakingStays}
 use Rattle.reql_law.specs.Machine.{State, Seen, known_cmd, known_entry, machine, after, reply}
 use Rattle.reql_law.specs.Replies.{Answered}
-use Rattle.reql_law.specs.Table.{Kept, Held, feeding}
+use Rattle.reql_law.specs.Table.{DocumentTable, Held, feeding}
 use Rattle.reql_law.specs.declared.command.FeedSpec.{FeedSpec}
 
 abbrev pub Entries : Type 0
 Entries = List (Recorded (Asked (Known WriteCmd IndexCmd FeedSpec)))
 
-abbrev pub tables : ℕ → Machine Kept (Asked (Known WriteCmd IndexCmd FeedSpec)) Answered (Unit {0}) Seen
+abbrev pub tables : ℕ → Machine DocumentTable (Asked (Known WriteCmd IndexCmd FeedSpec)) Answered (Unit {0}) Seen
 tables most = table_machine (feeding most)
 
 -- with the limits of s, this table
-abbrev pub beside : State → Kept → State
+abbrev pub beside : State → DocumentTable → State
 beside s t = record s { table = t }
 
 pub replay_is : (s : State) (es : History) → replay machine s es ≡ beside s (replay (tables s.most) s.table (map known_entry es))
@@ -71,8 +71,11 @@ later_docs s history more n le =
     ∙ of_tables.later_docs (feeding s.most) s.table (map known_entry history) (map known_entry more) n (subst (λ (z : State). z.table.stamp ≤ n) (replay_is s history) le)
     ∙ ap (λ (z : State). docs_at z more n) (sym (replay_is s history))
 
+pub tables_stay : TablesStay
+tables_stay s history more place le = ap (λ z. replay machine s z) (take-append-le place history more le)
+
 -- of the changes of a longer history, those up to a stamp that was reached
-stay_for : (most : ℕ) (t : Kept) (xs ys : Entries) (n : ℕ) → n ≤ (replay (tables most) t xs).stamp → fed.docs_at (feeding most) t (xs ++ ys) n ≡ fed.docs_at (feeding most) t xs n
+stay_for : (most : ℕ) (t : DocumentTable) (xs ys : Entries) (n : ℕ) → n ≤ (replay (tables most) t xs).stamp → fed.docs_at (feeding most) t (xs ++ ys) n ≡ fed.docs_at (feeding most) t xs n
 stay_for most t xs ys n le =
     let m : Feeding (List Document) Indexes WriteCmd IndexCmd FeedSpec Summary Changed Held Plain (List Plain) = feeding most in
     let first : List Changed = fed.changes_from m t xs in

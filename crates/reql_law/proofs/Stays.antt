@@ -22,7 +22,7 @@ use Rattle.reql_table_machine.proofs.Tracking.{split}
 use Rattle.reql_law.specs.Indexes.{Indexes, IndexCmd, create, drop, rename, is_there, is_taken, renamed, indexed}
 use Rattle.reql_law.specs.Laws.{History, AreGood, May, GoodStay, IndexesStay}
 use Rattle.reql_law.specs.Machine.{State, known_cmd, machine, after}
-use Rattle.reql_law.specs.Table.{Kept, Held, feeding, held}
+use Rattle.reql_law.specs.Table.{DocumentTable, Held, feeding, held}
 use Rattle.reql_law.specs.declared.command.FeedSpec.{FeedSpec}
 use Rattle.reql_law.proofs.Folding.{kinds_fold, writes_come}
 
@@ -30,7 +30,7 @@ abbrev Told : Type 0
 Told = Known WriteCmd IndexCmd FeedSpec
 
 module _ (most : ℕ) where
-  come : (t : Kept) (cmd : Told) → Comes (feeding most) May t.docs (changes_by (feeding most) t cmd)
+  come : (t : DocumentTable) (cmd : Told) → Comes (feeding most) May t.docs (changes_by (feeding most) t cmd)
   come t (known.Write w) = writes_come most t.docs t.indexes w
   come t (known.Index j) = tt
   come t (known.Subscribe p) = tt
@@ -39,19 +39,19 @@ module _ (most : ℕ) where
   come t known.Shut = tt
   come t known.Sync = tt
 
-  come_at : (t : Kept) (who : ℕ) (cmd : Told) → Comes (feeding most) May t.docs (changes_at (feeding most) t who cmd)
+  come_at : (t : DocumentTable) (who : ℕ) (cmd : Told) → Comes (feeding most) May t.docs (changes_at (feeding most) t who cmd)
   come_at t who cmd = split (adds (feeding most) (answer (feeding most) t who cmd)) (λ b. Comes (feeding most) May t.docs (cond b (changes_by (feeding most) t cmd) [])) (λ _. come t cmd) (λ _. tt)
 
-  good_step : (t : Kept) (who : ℕ) (cmd : Told) → AreGood t.docs → AreGood (after_cmd (feeding most) t who cmd).docs
+  good_step : (t : DocumentTable) (who : ℕ) (cmd : Told) → AreGood t.docs → AreGood (after_cmd (feeding most) t who cmd).docs
   good_step t who cmd g =
       subst AreGood (sym (after_docs (feeding most) t who cmd).0) (good_changed (feeding most) AreGood May (kinds_fold most) t.docs (changes_at (feeding most) t who cmd) g (come_at t who cmd))
 
   -- ---- indexes
-  written_indexes : (t : Kept) (xs : List Changed) → (after_changes (feeding most) t xs).indexes ≡ t.indexes
+  written_indexes : (t : DocumentTable) (xs : List Changed) → (after_changes (feeding most) t xs).indexes ≡ t.indexes
   written_indexes t [] = refl
   written_indexes t (x ∷ xs) = written_indexes (after_change (feeding most) t x) xs
 
-  opened_indexes : (t : Kept) (who : ℕ) (k : Option Held) → (opened_in (feeding most) t who k).indexes ≡ t.indexes
+  opened_indexes : (t : DocumentTable) (who : ℕ) (k : Option Held) → (opened_in (feeding most) t who k).indexes ≡ t.indexes
   opened_indexes t who None = refl
   opened_indexes t who (Some k) = split (nat_lt (length t.feeds) most) (λ b. (cond b (record t { feeds = t.feeds ++ new_feed (feeding most) t who k ∷ [] }) t).indexes ≡ t.indexes) (λ _. refl) (λ _. refl)
 
@@ -66,7 +66,7 @@ module _ (most : ℕ) where
       split (same_text old new) (λ b. AreRising (if b then js else (if is_taken new overwrite js then js else renamed old new (find old js) js))) (λ _. up)
       (λ _. split (is_taken new overwrite js) (λ b. AreRising (if b then js else renamed old new (find old js) js)) (λ _. up) (λ _. renamed_rising old new (find old js) js up))
 
-  effect_rising : (t : Kept) (who : ℕ) (cmd : Told) → AreRising t.indexes → AreRising (effect (feeding most) t who cmd).indexes
+  effect_rising : (t : DocumentTable) (who : ℕ) (cmd : Told) → AreRising t.indexes → AreRising (effect (feeding most) t who cmd).indexes
   effect_rising t who (known.Write w) up = subst AreRising (sym (written_indexes t (write t.docs t.indexes w).changes)) up
   effect_rising t who (known.Index c) up = indexed_rising t.indexes c up
   effect_rising t who (known.Subscribe p) up = subst AreRising (sym (opened_indexes t who (held t.indexes p))) up
@@ -75,7 +75,7 @@ module _ (most : ℕ) where
   effect_rising t who known.Shut up = up
   effect_rising t who known.Sync up = up
 
-  rising_step : (t : Kept) (who : ℕ) (cmd : Told) → AreRising t.indexes → AreRising (after_cmd (feeding most) t who cmd).indexes
+  rising_step : (t : DocumentTable) (who : ℕ) (cmd : Told) → AreRising t.indexes → AreRising (after_cmd (feeding most) t who cmd).indexes
   rising_step t who cmd up = split (adds (feeding most) (answer (feeding most) t who cmd)) (λ b. AreRising (cond b (one_more (feeding most) (effect (feeding most) t who cmd)) t).indexes) (λ _. effect_rising t who cmd up) (λ _. up)
 
 pub good_stay : GoodStay

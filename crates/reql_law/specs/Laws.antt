@@ -1,5 +1,5 @@
 -- Laws of the table machine.
-use Rattle.std.specs.Prelude.{◌≡◌, ◌≤◌, ◌<◌, ◌^◌, ℕ, suc, ◌+◌, List, [], ◌∷◌, ◌++◌, length, map, true, false}
+use Rattle.std.specs.Prelude.{◌≡◌, ◌≤◌, ◌<◌, ◌^◌, ℕ, suc, ◌+◌, List, [], ◌∷◌, ◌++◌, length, map, take, true, false}
 use Rattle.reql_datum.specs.Members.{AreRising}
 use Rattle.reql_datum.specs.Order.{order}
 use Rattle.reql_memory.specs.Sorted.{AreRisingBy}
@@ -21,7 +21,7 @@ use Rattle.reql_table_machine.specs.declared.command.Order.{Order as Asked}
 use Rattle.reql_law.specs.Indexes.{Indexes, IndexCmd}
 use Rattle.reql_law.specs.Machine.{State, Seen, known_order, known_entry, machine, after, reply, is_recorded}
 use Rattle.reql_law.specs.Replies.{Answered}
-use Rattle.reql_law.specs.Table.{Kept, feeding, at_key}
+use Rattle.reql_law.specs.Table.{DocumentTable, feeding, at_key}
 use Rattle.reql_law.specs.declared.command.FeedSpec.{FeedSpec}
 use Rattle.reql_law.specs.declared.command.Order.{Order}
 
@@ -55,7 +55,7 @@ RefusedStays = (s : State) (by : ℕ) (o : Order) → is_recorded (reply s by o)
 
 -- a command that adds an entry adds one to the place, and place and stamp stay numbers of a u64: rules out an entry that is not counted, and a number
 -- that wraps
-pub record IsRecorded (t u : Kept) : Type 0 where
+pub record IsRecorded (t u : DocumentTable) : Type 0 where
   pub place : u.place ≡ suc t.place
   pub room : u.place < 2 ^ 64
   pub stamp : u.stamp < 2 ^ 64
@@ -78,6 +78,10 @@ LaterDocs = (s : State) (history more : History) (n : ℕ) → (replay machine s
 
 abbrev pub DocsStay : Type 0
 DocsStay = (s : State) (history more : History) (n : ℕ) → n ≤ (replay machine s history).table.stamp → docs_at s (history ++ more) n ≡ docs_at s history n
+
+-- the table at a place stays when the history goes on, and with it what a command there is answered: rules out a reply that depends on what comes later
+abbrev pub TablesStay : Type 0
+TablesStay = (s : State) (history more : History) (place : ℕ) → place ≤ length history → replay machine s (take place (history ++ more)) ≡ replay machine s (take place history)
 
 -- a write leaves what writes leave: rules out a table that goes another way than its writes say
 abbrev pub WritesLand : Type 0

@@ -12,7 +12,7 @@ use Rattle.reql_table_machine.specs.declared.command.Look.{Look}
 use Rattle.reql_table_machine.specs.declared.command.Order.{Order as Asked}
 use Rattle.reql_law.specs.Indexes.{Indexes, IndexCmd, create, drop, rename}
 use Rattle.reql_law.specs.Replies.{Answered}
-use Rattle.reql_law.specs.Table.{Kept, feeding, opening}
+use Rattle.reql_law.specs.Table.{DocumentTable, feeding, opening}
 use Rattle.reql_law.specs.declared.command.Cmd.{Cmd}
 use Rattle.reql_law.specs.declared.command.Cmd.TheVariants as cmds
 use Rattle.reql_law.specs.declared.command.Entry.{Entry}
@@ -22,7 +22,7 @@ use Rattle.reql_law.specs.declared.command.Order.{Order}
 -- what contracts see of the engine of a table: the table; how many feeds may be open; and, fixed when it is made, whether its disk never
 -- fails, and whether it has one
 pub record State : Type 0 where
-  pub table : Kept
+  pub table : DocumentTable
   pub most : ℕ
   pub sound : Bool
   pub journaled : Bool

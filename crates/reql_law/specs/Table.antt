@@ -69,8 +69,8 @@ feeding most = record {
 }
 
 -- a table of documents, and what an opened one is
-abbrev pub Kept : Type 0
-Kept = Table (List Document) Indexes Held Plain
+abbrev pub DocumentTable : Type 0
+DocumentTable = Table (List Document) Indexes Held Plain
 
-abbrev pub opening : List Document → Indexes → Kept
+abbrev pub opening : List Document → Indexes → DocumentTable
 opening docs indexes = opening_table (feeding 0) docs indexes

@@ -1,12 +1,12 @@
 // Laws of the table machine, each a clause of a function that does nothing.
 ghost use Rattle.reql_law.specs.Reading.{PointsAreRead, RangesAreRead, NamedRangesAreRead, LimitsAreRead, LimitsByKeyAreRead};
-ghost use Rattle.reql_law.specs.Laws.{RefusedStays, RecordedFit, DocsAtStamp, StampCounts, LaterDocs, DocsStay, WritesLand, GoodStay, IndexesStay, MakingStays, KindsFold, FeedsFold};
+ghost use Rattle.reql_law.specs.Laws.{RefusedStays, RecordedFit, DocsAtStamp, StampCounts, LaterDocs, DocsStay, TablesStay, WritesLand, GoodStay, IndexesStay, MakingStays, KindsFold, FeedsFold};
 
 /// A command that adds no entry leaves the table as it was, and one that does adds one to the place;
 /// places and stamps are numbers of a u64. The documents of a table are those after all changes of
-/// its history, which the stamp counts, and those at a stamp stay the same when the history goes on. A write leaves what
-/// writes leave. Documents stay in order of their keys and no nulls, and indexes in order of their
-/// names; limits, and how an engine was made, stay.
+/// its history, which the stamp counts; those at a stamp, and the table at a place, stay the same
+/// when the history goes on. A write leaves what writes leave. Documents stay in order of their keys
+/// and no nulls, and indexes in order of their names; limits, and how an engine was made, stay.
 pub fn table_laws()
     ensures refused { RefusedStays }
     ensures recorded { RecordedFit }
@@ -14,6 +14,7 @@ pub fn table_laws()
     ensures stamp { StampCounts }
     ensures later { LaterDocs }
     ensures stay { DocsStay }
+    ensures tables { TablesStay }
     ensures writes { WritesLand }
     ensures good { GoodStay }
     ensures indexes { IndexesStay }
