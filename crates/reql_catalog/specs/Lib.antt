@@ -1,0 +1,4 @@
+pub mod Catalog
+pub mod Machine
+pub mod Bounds
+pub mod Worked
