@@ -16,7 +16,7 @@ pub use limits::sized;
 pub use options::{find_choice, left_is_open, right_is_open, same_text, text_option};
 pub use reading::{as_sequence, as_table, read_range, to_sequence};
 pub use scalars::{is_true, negation, raise, type_of};
-pub use texts::{bad_option, misplaced, misplaced_order, wrong_count};
+pub use texts::{bad_option, misplaced, misplaced_order, no_index, not_a_key, wrong_count};
 pub use value::{Arg, Bounds, Choice, Group, Key, Rows, Slice, Value};
 pub use wanted::{
     as_array, as_datum, as_number, as_text, datum_of, into_datum, is_nothing, items_in_arg,
