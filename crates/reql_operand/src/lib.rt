@@ -31,7 +31,8 @@ pub use reading::{as_sequence, as_table, read_range, to_sequence};
 pub use scalars::{is_true, negation, raise, type_of};
 pub use sequenced::{alike, in_order, like};
 pub use texts::{
-    bad_option, misplaced, misplaced_order, negative_count, no_index, over_range, wrong_count,
+    bad_option, misplaced, misplaced_order, negative_count, no_index, not_a_key, over_range,
+    wrong_count,
 };
 pub use value::{Arg, Bounds, Choice, Group, Key, Rows, Slice, Value};
 pub use wanted::{
