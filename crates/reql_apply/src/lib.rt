@@ -1,0 +1,8 @@
+//! Every operator by its rule, at once or on the members of each group.
+#![tactic(auto)]
+
+mod groups;
+mod operators;
+
+pub use groups::{at_once, by_groups, on_groups};
+pub use operators::apply;
