@@ -1,5 +1,5 @@
 -- A rule by groups, where the first argument is grouped and where it isn't.
-use Rattle.std.proofs.Common.{◌≡◌, List, [], ◌∷◌, Bool, true, false, refl, Result}
+use Rattle.std.proofs.Common.{◌≡◌, List, [], ◌∷◌, false, refl, Result}
 use Rattle.reql_datum.specs.Answer.{Answer}
 use Rattle.reql_datum.specs.Outcome.{Gives}
 use Rattle.reql_datum.specs.Plain.{Plain}

@@ -2,7 +2,6 @@
 ghost use Rattle.std.specs.Prelude.{◌≡◌, List, ◌∷◌, ◌<◌, length, drop, map, true, false, Ok};
 ghost use Rattle.reql_datum.specs.Answer.{Answer};
 ghost use Rattle.reql_datum.specs.Outcome.{Gives};
-ghost use Rattle.reql_datum.specs.Plain.{Plain};
 ghost use Rattle.reql_datum.specs.View.{plain};
 ghost use Rattle.reql_rules.specs.Lists.{each};
 ghost use Rattle.reql_value.specs.Meant.{Meant, Given, Calls, grouped, given, one};
@@ -13,9 +12,9 @@ ghost use Rattle.reql_operand.specs.Seen.{meant, shown, all_shown, all_chosen, g
 ghost use Rattle.reql_operand.specs.Tables.{seen};
 ghost use Rattle.reql_apply.specs.Called.{MeansValue};
 ghost use Rattle.reql_apply.specs.Ruled.{ruled, ruled_on, in_groups, is_groups as is_groups_of, has_groups as has_groups_of, grouped_by, gives_groups, begins_with_groups};
-ghost use Rattle.reql_apply.specs.Wrapped.{of_groups};
 
 use crate::operators::apply;
+use crate::wrapped::grouped_value;
 use reql_datum::{Datum, Fault};
 use reql_operand::{Arg, Choice, Group, Value, World, into_datum, sized};
 use reql_term::{Op, TableView};
@@ -172,17 +171,6 @@ fn each_group<V: TableView, F: Fn(usize, &[Datum]) -> Result<Value, Fault>>(
         found.push(reduced)?;
     }
     Ok(found)
-}
-
-#[tactic(auto, using(reql_operand::proofs::Steps::fails_on))]
-fn grouped_value(found: Result<Vec<Group>, Fault>) -> Result<Value, Fault>
-    ensures { (w : Seen) (a : Answer (List (Plain × Plain)))
-        → Gives (λ gs. map group gs.items) found a → Gives (meant w) result (of_groups a) }
-{
-    match found {
-        Ok(groups) => Ok(Value::Grouped(groups)),
-        Err(fault) => Err(fault),
-    }
 }
 
 // The rule over the groups of the first argument.

@@ -2,7 +2,9 @@
 #![tactic(auto)]
 
 mod groups;
+mod kinds;
 mod operators;
+mod wrapped;
 
 pub use groups::{at_once, by_groups, on_groups};
 pub use operators::apply;
