@@ -25,7 +25,8 @@ fn count_in_table<V: TableView>(table: &Viewed<V>, range: &Range) -> Result<u64,
     }
 }
 
-fn count_range<V: TableView>(
+/// How many documents a range of the table in a slot has.
+pub fn count_range<V: TableView>(
     alloc: Global,
     world: &World<V>,
     slot: u32,

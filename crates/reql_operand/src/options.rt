@@ -3,7 +3,7 @@ ghost use Rattle.std.specs.Prelude.{◌≡◌, Some, map, option_map};
 ghost use Rattle.reql_datum.specs.Members.{find};
 ghost use Rattle.reql_datum.specs.Outcome.{Gives};
 ghost use Rattle.reql_rules.specs.Types.{same_text as same_text_of};
-ghost use Rattle.reql_value.specs.Wanted.{text_given as text_given_of, text_option as text_option_of, boundness as boundness_of, is_open as is_open_of, left_is_open as left_is_open_of, right_is_open as right_is_open_of};
+ghost use Rattle.reql_value.specs.Wanted.{text_given as text_given_of, text_option as text_option_of, index_text as index_text_of, boundness as boundness_of, is_open as is_open_of, left_is_open as left_is_open_of, right_is_open as right_is_open_of};
 ghost use Rattle.reql_value.specs.World.{World as Seen};
 ghost use Rattle.reql_operand.specs.Seen.{shown, choice};
 
@@ -56,6 +56,14 @@ fn text_given<'a>(alloc: Global, name: &str, arg: &'a Arg) -> Result<Option<&'a 
         Some(text) => Ok(Some(text)),
         None => Err(Fault::QueryLogic(bad_option(alloc, name)?)),
     }
+}
+
+/// The name of the index that is asked for.
+pub fn index_text<'a>(alloc: Global, opts: &'a [Choice]) -> Result<Option<&'a Name>, Fault>
+    ensures { (w : Seen) → Gives (option_map (λ n. n.now)) result
+        (index_text_of (map (choice w) opts.now)) }
+{
+    text_option(alloc, "index", opts)
 }
 
 fn boundness(alloc: Global, name: &str, usual: bool, given: Option<&Name>) -> Result<bool, Fault>

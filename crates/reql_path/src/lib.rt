@@ -13,5 +13,5 @@ mod plucking;
 pub use excluding::without;
 pub use having::has;
 pub use merging::merge;
-pub use pattern::{PathFault, Pattern};
+pub use pattern::{PathFault, Pattern, is_pattern};
 pub use plucking::pluck;

@@ -59,9 +59,10 @@ impl From<Memory> for PathFault {
     }
 }
 
+/// Whether a document is a pattern.
 #[cycle(is_pattern)]
 #[tactic(auto, using(reql_datum::proofs::Walks::walks))]
-fn is_pattern(d: &Datum) -> bool
+pub fn is_pattern(d: &Datum) -> bool
     ensures { result ≡ is_pattern (plain d.now) }
 {
     match d {

@@ -1,9 +1,8 @@
 // COERCE_TO, but for JSON texts.
-ghost use Rattle.std.specs.Prelude.{◌≡◌, ◌∷◌, [], IfOk, map, codes, option_map};
+ghost use Rattle.std.specs.Prelude.{◌≡◌, ◌∷◌, [], IfOk, map, option_map};
 ghost use Rattle.reql_datum.specs.Members.{put};
 ghost use Rattle.reql_datum.specs.Outcome.{Gives};
 ghost use Rattle.reql_datum.specs.Answer.{query_logic};
-ghost use Rattle.reql_datum.specs.Kinds.{type_name};
 ghost use Rattle.reql_datum.specs.Plain.{Plain, boolean, object, pairs_of, array, items_of, binary, text};
 ghost use Rattle.reql_datum.specs.View.{plain};
 ghost use Rattle.reql_rules.specs.Coercing.{coerced, array_in, string_in, whole_in, binary_in, pair_in, to_object, coerce_named, coerce};
@@ -58,25 +57,23 @@ fn pairs(alloc: Global, fields: &Fields) -> Result<Items, Memory>
 }
 
 #[tactic(auto, using(reql_datum::proofs::Back::back))]
-fn object_to_array(alloc: Global, fields: &Fields, to: &str) -> Result<Datum, Fault>
+fn object_to_array(alloc: Global, kind: &str, fields: &Fields, to: &str) -> Result<Datum, Fault>
     ensures { Gives plain result
-        (coerced (type_name (object (pairs_of fields.now))) to.now
-        (array_in (object (pairs_of fields.now)))) }
+        (coerced kind.now to.now (array_in (object (pairs_of fields.now)))) }
 {
     if fields.is_literal() {
-        return Err(refused(alloc, "PTYPE<LITERAL>", to));
+        return Err(refused(alloc, kind, to));
     }
     Ok(Datum::List(pairs(alloc, fields)?))
 }
 
-fn to_array(alloc: Global, d: &Datum, to: &str) -> Result<Datum, Fault>
-    ensures { Gives plain result
-        (coerced (type_name (plain d.now)) to.now (array_in (plain d.now))) }
+fn to_array(alloc: Global, kind: &str, d: &Datum, to: &str) -> Result<Datum, Fault>
+    ensures { Gives plain result (coerced kind.now to.now (array_in (plain d.now))) }
 {
     match d {
         Datum::List(items) => Ok(Datum::List(items.copy()?)),
-        Datum::Obj(fields) => object_to_array(alloc, fields, to),
-        _ => Err(refused(alloc, d.type_name(), to)),
+        Datum::Obj(fields) => object_to_array(alloc, kind, fields, to),
+        _ => Err(refused(alloc, kind, to)),
     }
 }
 
@@ -115,8 +112,9 @@ fn bad_name(alloc: Global) -> Fault
     query_logic(alloc, "Bad name in object.")
 }
 
-// Puts a name that is not there yet into an object.
-fn put_new(alloc: Global, fields: &mut Fields, name: &Name, value: &Datum) -> Result<(), Fault>
+/// Puts a name that is not there yet into an object. One that is there, or the reserved one, is a
+/// fault.
+pub fn put_new(alloc: Global, fields: &mut Fields, name: &Name, value: &Datum) -> Result<(), Fault>
     ensures { Gives (λ _. fields.new) result (put_new name.now (plain value.now) fields.old) }
 {
     if is_same(name.as_str(), "$reql_type$") || fields.get(name.as_str()).is_some() {
@@ -150,74 +148,71 @@ fn put_pair(alloc: Global, fields: &mut Fields, kind: &str, item: &Datum) -> Res
     }
 }
 
-fn object_of(alloc: Global, items: &Items) -> Result<Fields, Fault>
-    ensures { Gives (λ ms. ms) result (put_pairs (codes "ARRAY") [] items.now) }
+fn object_of(alloc: Global, kind: &str, items: &Items) -> Result<Fields, Fault>
+    ensures { Gives (λ ms. ms) result (put_pairs kind.now [] items.now) }
 {
     let mut fields = Fields::with_room(alloc, items.len())?;
     let mut place = 0;
     while let Some(item) = items.at(place) {
-        put_pair(alloc, &mut fields, "ARRAY", item)?;
+        put_pair(alloc, &mut fields, kind, item)?;
         place += 1;
     }
     Ok(fields)
 }
 
 #[tactic(auto, using(crate::proofs::Two::object_is))]
-fn array_to_object(alloc: Global, items: &Items) -> Result<Datum, Fault>
-    ensures { Gives plain result (to_object (codes "ARRAY") (array (items_of items.now))) }
+fn array_to_object(alloc: Global, kind: &str, items: &Items) -> Result<Datum, Fault>
+    ensures { Gives plain result (to_object kind.now (array (items_of items.now))) }
 {
-    let fields = object_of(alloc, items)?;
+    let fields = object_of(alloc, kind, items)?;
     Ok(Datum::Obj(fields))
 }
 
-fn to_object(alloc: Global, d: &Datum) -> Result<Datum, Fault>
-    ensures { Gives plain result (to_object (type_name (plain d.now)) (plain d.now)) }
+fn to_object(alloc: Global, kind: &str, d: &Datum) -> Result<Datum, Fault>
+    ensures { Gives plain result (to_object kind.now (plain d.now)) }
 {
     match d {
-        Datum::List(items) => array_to_object(alloc, items),
-        _ => Err(refused(alloc, d.type_name(), "object")),
+        Datum::List(items) => array_to_object(alloc, kind, items),
+        _ => Err(refused(alloc, kind, "object")),
     }
 }
 
-fn binary_to_string(alloc: Global, blob: &Blob, to: &str) -> Result<Datum, Fault>
-    ensures { Gives plain result
-        (coerced (codes "PTYPE<BINARY>") to.now (string_in (binary blob.now))) }
+fn binary_to_string(alloc: Global, kind: &str, blob: &Blob, to: &str) -> Result<Datum, Fault>
+    ensures { Gives plain result (coerced kind.now to.now (string_in (binary blob.now))) }
 {
     match str::from_utf8(blob.as_bytes()) {
         Ok(text) => Ok(Datum::Text(Name::of(alloc, text)?)),
-        Err(_) => Err(refused(alloc, "PTYPE<BINARY>", to)),
+        Err(_) => Err(refused(alloc, kind, to)),
     }
 }
 
-fn to_string(alloc: Global, d: &Datum, to: &str) -> Result<Datum, Fault>
-    ensures { Gives plain result
-        (coerced (type_name (plain d.now)) to.now (string_in (plain d.now))) }
+fn to_string(alloc: Global, kind: &str, d: &Datum, to: &str) -> Result<Datum, Fault>
+    ensures { Gives plain result (coerced kind.now to.now (string_in (plain d.now))) }
 {
     match d {
         Datum::Text(text) => Ok(Datum::Text(text.copy()?)),
-        Datum::Binary(blob) => binary_to_string(alloc, blob, to),
-        _ => Err(refused(alloc, d.type_name(), to)),
+        Datum::Binary(blob) => binary_to_string(alloc, kind, blob, to),
+        _ => Err(refused(alloc, kind, to)),
     }
 }
 
 #[tactic(auto, using(crate::proofs::Written::whole_text))]
-fn text_to_number(alloc: Global, chars: &Name, to: &str) -> Result<Datum, Fault>
-    ensures { Gives plain result (coerced (codes "STRING") to.now (whole_in (text chars.now))) }
+fn text_to_number(alloc: Global, kind: &str, chars: &Name, to: &str) -> Result<Datum, Fault>
+    ensures { Gives plain result (coerced kind.now to.now (whole_in (text chars.now))) }
 {
     match number_of(chars.as_str()) {
         Some(n) => Ok(Datum::Num(n)),
-        None => Err(refused(alloc, "STRING", to)),
+        None => Err(refused(alloc, kind, to)),
     }
 }
 
-fn to_number(alloc: Global, d: &Datum, to: &str) -> Result<Datum, Fault>
-    ensures { Gives plain result
-        (coerced (type_name (plain d.now)) to.now (whole_in (plain d.now))) }
+fn to_number(alloc: Global, kind: &str, d: &Datum, to: &str) -> Result<Datum, Fault>
+    ensures { Gives plain result (coerced kind.now to.now (whole_in (plain d.now))) }
 {
     match d {
         Datum::Num(n) => Ok(Datum::Num(*n)),
-        Datum::Text(chars) => text_to_number(alloc, chars, to),
-        _ => Err(refused(alloc, d.type_name(), to)),
+        Datum::Text(chars) => text_to_number(alloc, kind, chars, to),
+        _ => Err(refused(alloc, kind, to)),
     }
 }
 
@@ -231,14 +226,13 @@ fn truth(d: &Datum) -> bool
     }
 }
 
-fn to_binary(alloc: Global, d: &Datum, to: &str) -> Result<Datum, Fault>
-    ensures { Gives plain result
-        (coerced (type_name (plain d.now)) to.now (binary_in (plain d.now))) }
+fn to_binary(alloc: Global, kind: &str, d: &Datum, to: &str) -> Result<Datum, Fault>
+    ensures { Gives plain result (coerced kind.now to.now (binary_in (plain d.now))) }
 {
     match d {
         Datum::Binary(blob) => Ok(Datum::Binary(blob.copy()?)),
         Datum::Text(chars) => Ok(Datum::Binary(Blob::of(alloc, chars.as_str().as_bytes())?)),
-        _ => Err(refused(alloc, d.type_name(), to)),
+        _ => Err(refused(alloc, kind, to)),
     }
 }
 
@@ -248,23 +242,31 @@ fn to_binary(alloc: Global, d: &Datum, to: &str) -> Result<Datum, Fault>
 pub fn coerce(alloc: Global, d: &Datum, to: &str) -> Result<Datum, Fault>
     ensures { Gives plain result (coerce (plain d.now) to.now) }
 {
+    coerce_named(alloc, d.type_name(), d, to)
+}
+
+/// The same, with the name of the type that a fault tells, which isn't the document's own where it
+/// is a row of a table.
+pub fn coerce_named(alloc: Global, kind: &str, d: &Datum, to: &str) -> Result<Datum, Fault>
+    ensures { Gives plain result (coerce_named kind.now (plain d.now) to.now) }
+{
     if is_same(to, "array") {
-        return to_array(alloc, d, to);
+        return to_array(alloc, kind, d, to);
     }
     if is_same(to, "object") {
-        return to_object(alloc, d);
+        return to_object(alloc, kind, d);
     }
     if is_same(to, "string") {
-        return to_string(alloc, d, to);
+        return to_string(alloc, kind, d, to);
     }
     if is_same(to, "number") {
-        return to_number(alloc, d, to);
+        return to_number(alloc, kind, d, to);
     }
     if is_same(to, "bool") {
         return Ok(Datum::Bool(truth(d)));
     }
     if is_same(to, "binary") {
-        return to_binary(alloc, d, to);
+        return to_binary(alloc, kind, d, to);
     }
-    Err(refused(alloc, d.type_name(), to))
+    Err(refused(alloc, kind, to))
 }

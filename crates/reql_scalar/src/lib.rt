@@ -12,7 +12,7 @@ mod sets;
 mod wanted;
 
 pub use adding::arith;
-pub use coercing::coerce;
+pub use coercing::{coerce, coerce_named, put_new};
 pub use editing::edit;
 pub use relating::relate;
 pub use sets::set;

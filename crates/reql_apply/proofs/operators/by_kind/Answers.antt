@@ -1,0 +1,10 @@
+use Rattle.reql_operand.specs.Tables.{seen}
+use Rattle.reql_apply.proofs.operators.by_kind.Goals as goal
+
+pub returns-in-Scalar : goal.returns-in-Scalar
+returns-in-Scalar g c calls h = rw c.in-Scalar.is (c.by_scalar.ensures calls h)
+
+pub returns-in-OnArray : goal.returns-in-OnArray
+returns-in-OnArray g c calls h =
+    let w = seen g.V.TableView.documents g.V.TableView.indexes g.V.TableView.entries c.args.world.now in
+    rw c.in-OnArray.is (c.by_array.ensures w calls)

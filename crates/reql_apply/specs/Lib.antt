@@ -1,0 +1,4 @@
+pub mod Called
+pub mod Kinds
+pub mod Ruled
+pub mod Wrapped

@@ -1,0 +1,10 @@
+//! Every operator by its rule, at once or on the members of each group.
+#![tactic(auto)]
+
+mod groups;
+mod kinds;
+mod operators;
+mod wrapped;
+
+pub use groups::{at_once, by_groups, on_groups};
+pub use operators::apply;

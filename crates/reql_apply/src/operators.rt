@@ -1,0 +1,106 @@
+// An operator applied to what its arguments gave.
+ghost use Rattle.reql_datum.specs.Outcome.{Gives};
+ghost use Rattle.reql_value.specs.Meant.{Calls};
+ghost use Rattle.reql_value.specs.Table.{rule_of};
+ghost use Rattle.reql_value.specs.World.{World as Seen};
+ghost use Rattle.reql_operand.specs.Called.{Answers};
+ghost use Rattle.reql_operand.specs.Seen.{meant, all_shown, all_chosen};
+ghost use Rattle.reql_operand.specs.Tables.{seen};
+ghost use Rattle.reql_apply.specs.Kinds.{kind_rule, scalar_rule, array_rule};
+
+use crate::kinds::{Kind, OnArray, Scalar, kind_of};
+use crate::wrapped::{array, one};
+use reql_apply_scalar::{
+    arithmetic, coerce_to, comparison, constant, delete_at, end_edit, epoch_time, funcall, literal,
+    make_array, place_edit, set_insert, set_operation, splice_at, to_epoch_time,
+};
+use reql_datum::{Datum, Fault};
+use reql_operand::{Arg, Choice, Value, World, misplaced, negation, raise, type_of};
+use reql_term::{Op, TableView};
+use std::alloc::Global;
+
+fn by_scalar<V: TableView, F: Fn(usize, &[Datum]) -> Result<Value, Fault>>(
+    alloc: Global,
+    op: Scalar,
+    args: &[Arg],
+    opts: &[Choice],
+    world: &World<V>,
+    call: &F,
+) -> Result<Value, Fault>
+    requires { F.IsAlwaysCallable call.now }
+    ensures { let w = seen V.documents V.indexes V.entries world.now in
+        (calls : Calls) → Answers w F.Fn call.now calls → Gives (meant w) result
+        (scalar_rule op w calls (all_shown w args.now) (all_chosen w opts.now)) }
+{
+    match op {
+        Scalar::MakeArray => array(make_array(alloc, args)),
+        Scalar::Error => one(raise(alloc, args)),
+        Scalar::Comparison(relation) => one(comparison(alloc, relation, args)),
+        Scalar::Not => one(negation(alloc, args)),
+        Scalar::Arithmetic(operation) => one(arithmetic(alloc, operation, args)),
+        Scalar::CoerceTo => one(coerce_to(alloc, args, world)),
+        Scalar::TypeOf => one(type_of(alloc, args)),
+        Scalar::Funcall => funcall(alloc, args, call),
+        Scalar::Literal => one(literal(alloc, args)),
+        Scalar::Minval => one(constant(Datum::Low)),
+        Scalar::Maxval => one(constant(Datum::High)),
+        Scalar::EpochTime => one(epoch_time(alloc, args)),
+        Scalar::ToEpochTime => one(to_epoch_time(alloc, args)),
+    }
+}
+
+fn by_array(alloc: Global, op: OnArray, args: &[Arg], opts: &[Choice]) -> Result<Value, Fault>
+    ensures { (w : Seen) (calls : Calls) → Gives (meant w) result
+        (array_rule op w calls (all_shown w args.now) (all_chosen w opts.now)) }
+{
+    match op {
+        OnArray::AtEnd(edit) => array(end_edit(alloc, edit, args)),
+        OnArray::AtPlace(edit) => array(place_edit(alloc, edit, args)),
+        OnArray::DeleteAt => array(delete_at(alloc, args)),
+        OnArray::SpliceAt => array(splice_at(alloc, args)),
+        OnArray::SetInsert => array(set_insert(alloc, args)),
+        OnArray::AsSets(operation) => array(set_operation(alloc, operation, args)),
+    }
+}
+
+fn by_kind<V: TableView, F: Fn(usize, &[Datum]) -> Result<Value, Fault>>(
+    alloc: Global,
+    kind: Kind,
+    args: &[Arg],
+    opts: &[Choice],
+    world: &World<V>,
+    call: &F,
+) -> Result<Value, Fault>
+    requires { F.IsAlwaysCallable call.now }
+    ensures { let w = seen V.documents V.indexes V.entries world.now in
+        (calls : Calls) → Answers w F.Fn call.now calls → Gives (meant w) result
+        (kind_rule kind w calls (all_shown w args.now) (all_chosen w opts.now)) }
+{
+    match kind {
+        Kind::Scalar(op) => by_scalar(alloc, op, args, opts, world, call),
+        Kind::OnArray(op) => by_array(alloc, op, args, opts),
+        Kind::Misplaced => Err(Fault::QueryLogic(misplaced(alloc)?)),
+        // The rules of the other kinds aren't called yet.
+        _ => Err(Fault::Memory),
+    }
+}
+
+/// An operator by its rule in the table of operators.
+///
+/// Faults where the rule does; terms that are no operators on values are misplaced. Operators on
+/// fields, sequences, joins, groups and tables give Memory, until their rules are called here.
+pub fn apply<V: TableView, F: Fn(usize, &[Datum]) -> Result<Value, Fault>>(
+    alloc: Global,
+    op: Op,
+    args: &[Arg],
+    opts: &[Choice],
+    world: &World<V>,
+    call: &F,
+) -> Result<Value, Fault>
+    requires { F.IsAlwaysCallable call.now }
+    ensures { let w = seen V.documents V.indexes V.entries world.now in
+        (calls : Calls) → Answers w F.Fn call.now calls
+        → Gives (meant w) result (rule_of op w calls (all_shown w args.now) (all_chosen w opts.now)) }
+{
+    by_kind(alloc, kind_of(op), args, opts, world, call)
+}

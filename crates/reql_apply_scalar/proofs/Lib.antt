@@ -1,0 +1,3 @@
+pub mod Operated
+pub mod Refused
+pub mod Walked
