@@ -1,0 +1,7 @@
+mod Parts
+mod Counts
+mod Ranges
+mod Named
+mod Steps
+mod Turned
+mod Rising
