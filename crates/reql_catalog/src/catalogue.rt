@@ -217,9 +217,19 @@ impl Engine for Catalogue {
 
     type State = Catalog;
 
+    type Told = CatReply;
+
+    type Heard = Names;
+
     ghost machine = { catalogue_machine };
 
     ghost state = { λ c. c };
+
+    ghost told = { λ r. r };
+
+    ghost heard = { λ n. n };
+
+    ghost tells = { λ old new by cmd reply. Unit {0} };
 
     ghost some_state = { no_names 0 };
 
