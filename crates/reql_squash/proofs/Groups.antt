@@ -1,12 +1,12 @@
 -- The net of a range feed is that of the groups of its items by their keys.
-use Rattle.std.proofs.Common.{◌≡◌, List, [], ◌∷◌, ◌++◌, map, Option, Some, None, Bool, true, false, ◌||◌, cond, refl, sym, ap, subst, ◌∙◌}
+use Rattle.std.proofs.Common.{◌≡◌, List, [], ◌∷◌, ◌++◌, map, Some, None, Bool, true, false, ◌||◌, cond, refl, sym, ap, subst, ◌∙◌}
 use Rattle.std.specs.List.{filter, flat_map, list_any, zip}
 use Rattle.std.specs.List.Sorted.{IsStrictlySortedBy}
 use Rattle.std.specs.Map.{keys_of}
 use Rattle.reql_memory.specs.Sorted.{AreRisingBy, find_by}
 use Rattle.reql_memory.proofs.Same.{same_found}
 use Rattle.reql_datum.specs.Order.{order}
-use Rattle.reql_datum.specs.Plain.{Plain, array, items_of}
+use Rattle.reql_datum.specs.Plain.{Plain}
 use Rattle.reql_datum.specs.Total.{order_total}
 use Rattle.reql_datum.proofs.Back.{listed_back}
 use Rattle.reql_bag.proofs.Bags.{same_is}
@@ -19,7 +19,7 @@ use Rattle.reql_rules.specs.Types.{same}
 use Rattle.reql_rules.proofs.Groups.{hold_each_once}
 use Rattle.reql_rules.proofs.Distinct.{holds_each_once}
 use Rattle.reql_feed_law.specs.Items.{Difference}
-use Rattle.reql_feed_law.specs.Net.{Keyed, bag_net, of_key, keys_in, keyed, range_net}
+use Rattle.reql_feed_law.specs.Net.{Keyed, bag_net, of_key, keyed, range_net}
 use Rattle.reql_feed_law.specs.Shown.{read}
 use Rattle.reql_squash.specs.Told.{group_net, groups_net, members_net}
 

@@ -1,9 +1,8 @@
 -- Walks over items.
-use Rattle.std.proofs.Common.{◌≡◌, ℕ, zero, suc, ◌+◌, ◌-◌, ◌<◌, max, List, [], ◌∷◌, ◌++◌, length, map, drop, slice_get, Option, Some, None, option_map, MatchOption, Bool, true, false, cond, codes, refl, sym, ap, ◌∙◌, arith, append_assoc, append-nil, add-one}
+use Rattle.std.proofs.Common.{◌≡◌, ℕ, zero, suc, ◌+◌, ◌-◌, ◌<◌, max, List, [], ◌∷◌, ◌++◌, length, map, drop, slice_get, Option, Some, None, option_map, MatchOption, Bool, true, false, cond, codes, refl, sym, ap, ◌∙◌, arith, append_assoc, add-one}
 use Rattle.std.proofs.lemmas.List.{map-append}
-use Rattle.std.specs.List.{flat_map}
 use Rattle.std.specs.Option.{option_and_then}
-use Rattle.reql_datum.specs.Plain.{Plain, null}
+use Rattle.reql_datum.specs.Plain.{Plain}
 use Rattle.reql_datum.specs.View.{plain}
 use Rattle.reql_datum.specs.declared.datum.Datum.{Datum}
 use Rattle.reql_bag.specs.Bag.{in_order, less_all}

@@ -32,7 +32,8 @@ pub(crate) fn side<'a>(item: &'a Datum, name: &str) -> Option<&'a Datum>
 }
 
 fn add_side(sides: &mut Items, item: &Datum, name: &str) -> Result<(), Memory>
-    ensures { IfOk result (λ _. sides.new ≡ sides.old ++ listed (side_of name.now (plain item.now))) }
+    ensures { IfOk result (λ _. sides.new
+        ≡ sides.old ++ listed (side_of name.now (plain item.now))) }
 {
     let Some(value) = side(item, name) else {
         return Ok(());

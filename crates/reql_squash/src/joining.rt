@@ -41,7 +41,8 @@ pub fn squash(
 }
 
 fn last_of(items: &Seq<(u64, Datum)>) -> Option<&(u64, Datum)>
-    ensures { MatchOption result (items.now ≡ []) (λ last. last_stamp (items_seen items.now) ≡ last.now.0) }
+    ensures { MatchOption result (items.now ≡ [])
+        (λ last. last_stamp (items_seen items.now) ≡ last.now.0) }
 {
     let last = items.len().saturating_sub(1);
     items.at(last)
@@ -103,7 +104,8 @@ fn tell_point(printer: &Printer, items: &Items, out: &mut Vec<(u64, Datum)>) -> 
 fn last_in<'a>(items: &'a Items, first: &'a Datum) -> &'a Datum
     requires { slice_get items.now 0 ≡ Some (plain first.now) }
     ensures { point_net (map read items.now)
-        ≡ point_items (or_null (read (plain first.now)).old) (or_null (read (plain result.now)).new) }
+        ≡ point_items (or_null (read (plain first.now)).old)
+        (or_null (read (plain result.now)).new) }
 {
     let last = items.len().saturating_sub(1);
     match items.at(last) {
@@ -121,7 +123,8 @@ fn tell_change(
 ) -> Result<(), Memory>
     ensures { IfOk result (λ _. items_seen out.new.items ≡ items_seen out.old.items
         ++ told printer.now.stamp printer.now.types
-        (point_items (or_null (read (plain first.now)).old) (or_null (read (plain last.now)).new))) }
+        (point_items (or_null (read (plain first.now)).old)
+        (or_null (read (plain last.now)).new))) }
 {
     let old = side(first, "old_val");
     let new = side(last, "new_val");

@@ -64,7 +64,8 @@ impl Printer {
     // The printed item of what left and what came.
     fn item(&self, old: Option<&Datum>, new: Option<&Datum>) -> Result<Datum, Memory>
         ensures { IfOk result (λ d. plain d ≡ shown (without_offsets self.now.types)
-            (of_values (option_map (λ d. plain d.now) old.entry) (option_map (λ d. plain d.now) new.entry))) }
+            (of_values (option_map (λ d. plain d.now) old.entry)
+            (option_map (λ d. plain d.now) new.entry))) }
     {
         let mut fields = Fields::with_room(self.alloc, 3)?;
         put(&mut fields, &self.new_val, or_null(new)?)?;
@@ -84,7 +85,8 @@ impl Printer {
         new: Option<&Datum>,
     ) -> Result<(), Memory>
         ensures { IfOk result (λ _. items_seen out.new.items ≡ items_seen out.old.items
-            ++ told self.now.stamp self.now.types (of_values (option_map (λ d. plain d.now) old.entry)
+            ++ told self.now.stamp self.now.types
+            (of_values (option_map (λ d. plain d.now) old.entry)
             (option_map (λ d. plain d.now) new.entry) ∷ [])) }
     {
         let item = self.item(old, new)?;

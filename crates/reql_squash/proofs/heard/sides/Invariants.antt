@@ -1,4 +1,4 @@
-use Rattle.std.proofs.Common.{◌≡◌, ℕ, ◌-◌, ◌++◌, length, drop}
+use Rattle.std.proofs.Common.{◌≡◌, ◌-◌, ◌++◌, length, drop}
 use Rattle.reql_squash.specs.Told.{sides_of}
 use Rattle.reql_squash.proofs.heard.sides.Given as goal
 

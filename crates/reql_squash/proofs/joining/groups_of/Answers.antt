@@ -1,8 +1,7 @@
-use Rattle.std.proofs.Common.{List, map, ap, ◌∙◌}
+use Rattle.std.proofs.Common.{List, ap, ◌∙◌}
 use Rattle.std.specs.List.{zip}
 use Rattle.reql_datum.specs.Plain.{Plain}
 use Rattle.reql_rules.specs.Grouping.{gather}
-use Rattle.reql_feed_law.specs.Net.{keyed}
 use Rattle.reql_squash.specs.Told.{groups_net}
 use Rattle.reql_squash.proofs.Groups.{range_net_is}
 use Rattle.reql_squash.proofs.joining.groups_of.Goals as goal

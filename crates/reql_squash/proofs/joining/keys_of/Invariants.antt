@@ -1,4 +1,4 @@
-use Rattle.std.proofs.Common.{◌≡◌, ℕ, ◌-◌, ◌++◌, length, map, drop}
+use Rattle.std.proofs.Common.{◌≡◌, ◌-◌, ◌++◌, length, map, drop}
 use Rattle.reql_datum.specs.Plain.{Plain}
 use Rattle.reql_feed_law.specs.Net.{keyed}
 use Rattle.reql_squash.proofs.joining.keys_of.Given as goal

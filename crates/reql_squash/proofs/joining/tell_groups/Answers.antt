@@ -1,5 +1,4 @@
 use Rattle.reql_squash.proofs.Walks.{groups_on}
-use Rattle.reql_datum.specs.View.{plain}
 use Rattle.reql_squash.proofs.joining.tell_groups.Goals as goal
 
 pub loop-members-preserved : goal.loop-members-preserved

@@ -1,4 +1,4 @@
-use Rattle.std.proofs.Common.{◌≡◌, ℕ, ◌-◌, ◌++◌, length, drop}
+use Rattle.std.proofs.Common.{◌≡◌, ◌-◌, ◌++◌, length, drop}
 use Rattle.reql_squash.specs.Told.{items_seen, told, groups_net}
 use Rattle.reql_squash.proofs.joining.tell_groups.Given as goal
 
