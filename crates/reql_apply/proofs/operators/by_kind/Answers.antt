@@ -8,3 +8,9 @@ pub returns-in-OnArray : goal.returns-in-OnArray
 returns-in-OnArray g c calls h =
     let w = seen g.V.TableView.documents g.V.TableView.indexes g.V.TableView.entries c.args.world.now in
     rw c.in-OnArray.is (c.by_array.ensures w calls)
+
+pub returns-in-OnSequence : goal.returns-in-OnSequence
+returns-in-OnSequence g c calls h = rw c.in-OnSequence.is (c.by_sequence.ensures calls h)
+
+pub returns-in-OnPart : goal.returns-in-OnPart
+returns-in-OnPart g c calls h = rw c.in-OnPart.is (c.by_part.ensures calls)
