@@ -1,1 +1,3 @@
 pub mod Told
+pub mod Sources
+pub mod Indexes

@@ -14,6 +14,7 @@ use std::alloc::Global;
 
 /// What a table goes by: its slot, the name and the number of its database, its own name, and the
 /// name of its key field.
+#[derive(Drop)]
 pub struct About {
     pub slot: u32,
     pub db: Name,

@@ -3,7 +3,17 @@
 
 mod admin;
 mod ids;
+mod indexes;
+mod keyed;
+mod ranged;
+mod sources;
+mod telling;
 
 pub use admin::{
     About, db_config, db_info, index_status, table_config, table_info, table_status, type_info,
 };
+pub use indexes::{index_list, index_statuses};
+pub use keyed::{get, get_all};
+pub use ranged::between;
+pub use sources::{documents_having, entries_source, index_or_key};
+pub use telling::{config, db, info, status};
