@@ -1,8 +1,9 @@
 -- The elements of a sequence that may not have been read yet.
-use Rattle.std.specs.Prelude.{ℕ, List, length, nat_eq, Bool, true, false, Ok}
+use Rattle.std.specs.Prelude.{ℕ, List, length, nat_eq, Bool, true, false, if◌then◌else◌, Ok}
 use Rattle.reql_datum.specs.Answer.{Answer, ◌>>=◌}
 use Rattle.reql_datum.specs.Plain.{Plain}
-use Rattle.reql_value.specs.Meant.{Given}
+use Rattle.reql_rules.specs.Lists.{array_of}
+use Rattle.reql_value.specs.Meant.{Meant, one, stream, Given}
 use Rattle.reql_value.specs.Wanted.{as_sequence}
 use Rattle.reql_value.specs.World.{World}
 use Rattle.reql_operand.specs.Seen.{documents_at}
@@ -29,3 +30,7 @@ is_one u = false
 abbrev pub is_plain : Arg → Bool
 is_plain (a.Value v) = is_one v
 is_plain g = false
+
+-- the elements as an array, or as a stream
+abbrev pub kind_of : Bool → List Plain → Meant
+kind_of b ds = if b then one (array_of ds) else stream ds

@@ -4,11 +4,15 @@
 #![tactic(auto)]
 
 mod counting;
+mod joining;
 mod parts;
 mod passing;
 mod places;
+mod ranging;
 mod source;
 
 pub use counting::count;
+pub use joining::union;
 pub use parts::{is_empty, limit, skip};
 pub use passing::contains;
+pub use ranging::range;
