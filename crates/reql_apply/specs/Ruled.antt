@@ -2,31 +2,31 @@
 use Rattle.std.specs.Prelude.{List, [], ◌∷◌, Bool, true, false, Ok}
 use Rattle.reql_datum.specs.Answer.{Answer, ◌>>=◌}
 use Rattle.reql_datum.specs.Plain.{Plain}
-use Rattle.reql_term.specs.declared.op.Op.{Op}
 use Rattle.reql_rules.specs.Lists.{each}
 use Rattle.reql_value.specs.Meant.{Meant, grouped, Given, given, Calls, Options}
 use Rattle.reql_value.specs.Sequenced as sequenced
-use Rattle.reql_value.specs.Table.{rule_of}
 use Rattle.reql_value.specs.World.{World}
+use Rattle.reql_apply.specs.Kinds.{kind_rule}
+use Rattle.reql_apply.specs.declared.kinds.Kind.{Kind}
 use Rattle.reql_operand.specs.declared.value.Arg.{Arg}
 use Rattle.reql_operand.specs.declared.value.Arg.TheVariants as a
 use Rattle.reql_operand.specs.declared.value.Value.{Value}
 use Rattle.reql_operand.specs.declared.value.Value.TheVariants as v
 
 -- the rule within the limits
-unfoldable pub ruled : Op → World → Calls → Options → List Given → Answer Meant
-ruled op w calls opts gs = sequenced.at_once w.array_limit (λ hs. rule_of op w calls hs opts) gs
+unfoldable pub ruled : Kind → World → Calls → Options → List Given → Answer Meant
+ruled op w calls opts gs = sequenced.at_once w.array_limit (λ hs. kind_rule op w calls hs opts) gs
 
 -- on one value in the place of the first argument
-unfoldable pub ruled_on : Op → World → Calls → Options → List Given → Meant → Answer Meant
+unfoldable pub ruled_on : Kind → World → Calls → Options → List Given → Meant → Answer Meant
 ruled_on op w calls opts rest m = ruled op w calls opts (given m ∷ rest)
 
 -- and by groups where the first argument is grouped
-unfoldable pub in_groups : Op → World → Calls → Options → List Given → Answer Meant
-in_groups op w calls opts gs = sequenced.by_groups w.array_limit (λ hs. rule_of op w calls hs opts) gs
+unfoldable pub in_groups : Kind → World → Calls → Options → List Given → Answer Meant
+in_groups op w calls opts gs = sequenced.by_groups w.array_limit (λ hs. kind_rule op w calls hs opts) gs
 
 -- the rule on the members of each group
-unfoldable pub grouped_by : Op → World → Calls → Options → List Given → List (Plain × Plain) → Answer Meant
+unfoldable pub grouped_by : Kind → World → Calls → Options → List Given → List (Plain × Plain) → Answer Meant
 grouped_by op w calls opts rest hs = each (sequenced.on_group (ruled_on op w calls opts rest)) hs >>= λ rs. Ok (grouped rs)
 
 abbrev pub is_grouped : Meant → Bool

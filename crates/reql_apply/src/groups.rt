@@ -13,11 +13,12 @@ ghost use Rattle.reql_operand.specs.Tables.{seen};
 ghost use Rattle.reql_apply.specs.Called.{MeansValue};
 ghost use Rattle.reql_apply.specs.Ruled.{ruled, ruled_on, in_groups, is_groups as is_groups_of, has_groups as has_groups_of, grouped_by, gives_groups, begins_with_groups};
 
+use crate::kinds::Kind;
 use crate::operators::apply;
 use crate::wrapped::grouped_value;
 use reql_datum::{Datum, Fault};
 use reql_operand::{Arg, Choice, Group, Value, World, into_datum, sized};
-use reql_term::{Op, TableView};
+use reql_term::TableView;
 use std::alloc::Global;
 use std::mem;
 
@@ -25,7 +26,7 @@ use std::mem;
 #[tactic(auto, unfolding(crate::specs::Ruled::ruled))]
 pub fn at_once<V: TableView, F: Fn(usize, &[Datum]) -> Result<Value, Fault>>(
     alloc: Global,
-    op: Op,
+    op: Kind,
     args: &[Arg],
     opts: &[Choice],
     world: &World<V>,
@@ -98,7 +99,7 @@ fn put_first(args: &mut [Arg], first: Arg)
 // The rule on the members of one group.
 fn one_group<V: TableView, F: Fn(usize, &[Datum]) -> Result<Value, Fault>>(
     alloc: Global,
-    op: Op,
+    op: Kind,
     members: Datum,
     args: &mut [Arg],
     opts: &[Choice],
@@ -122,7 +123,7 @@ fn one_group<V: TableView, F: Fn(usize, &[Datum]) -> Result<Value, Fault>>(
 // The rule on one group, which keeps its name.
 fn one_reduced<V: TableView, F: Fn(usize, &[Datum]) -> Result<Value, Fault>>(
     alloc: Global,
-    op: Op,
+    op: Kind,
     g: &Group,
     args: &mut [Arg],
     opts: &[Choice],
@@ -150,7 +151,7 @@ fn one_reduced<V: TableView, F: Fn(usize, &[Datum]) -> Result<Value, Fault>>(
 
 fn each_group<V: TableView, F: Fn(usize, &[Datum]) -> Result<Value, Fault>>(
     alloc: Global,
-    op: Op,
+    op: Kind,
     groups: &[Group],
     args: &mut [Arg],
     opts: &[Choice],
@@ -176,7 +177,7 @@ fn each_group<V: TableView, F: Fn(usize, &[Datum]) -> Result<Value, Fault>>(
 // The rule over the groups of the first argument.
 fn by_each<V: TableView, F: Fn(usize, &[Datum]) -> Result<Value, Fault>>(
     alloc: Global,
-    op: Op,
+    op: Kind,
     groups: &[Group],
     args: &mut [Arg],
     opts: &[Choice],
@@ -196,7 +197,7 @@ fn by_each<V: TableView, F: Fn(usize, &[Datum]) -> Result<Value, Fault>>(
 
 fn over_groups<V: TableView, F: Fn(usize, &[Datum]) -> Result<Value, Fault>>(
     alloc: Global,
-    op: Op,
+    op: Kind,
     args: &mut [Arg],
     opts: &[Choice],
     world: &World<V>,
@@ -215,7 +216,7 @@ fn over_groups<V: TableView, F: Fn(usize, &[Datum]) -> Result<Value, Fault>>(
 
 fn ungrouped<V: TableView, F: Fn(usize, &[Datum]) -> Result<Value, Fault>>(
     alloc: Global,
-    op: Op,
+    op: Kind,
     args: &[Arg],
     opts: &[Choice],
     world: &World<V>,
@@ -235,7 +236,7 @@ fn ungrouped<V: TableView, F: Fn(usize, &[Datum]) -> Result<Value, Fault>>(
 /// of each group.
 pub fn by_groups<V: TableView, F: Fn(usize, &[Datum]) -> Result<Value, Fault>>(
     alloc: Global,
-    op: Op,
+    op: Kind,
     args: Vec<Arg>,
     opts: &[Choice],
     world: &World<V>,

@@ -1,14 +1,14 @@
 // The operators by kinds, each kind with rules of its own.
-ghost use Rattle.std.specs.Prelude.{◌≡◌};
+ghost use Rattle.std.specs.Prelude.{◌≡◌, ⊤, is_some, MatchOption};
 ghost use Rattle.reql_value.specs.Table.{rule_of};
-ghost use Rattle.reql_apply.specs.Kinds.{kind_rule};
+ghost use Rattle.reql_apply.specs.Kinds.{kind_rule, is_called};
 
-use reql_rules::{Arith, Edit, Relate, SetOp, Total};
+use reql_rules::{Arith, Edit, Relate, SetOp};
 use reql_term::Op;
 
 /// On documents as such.
 #[derive(Clone, Copy)]
-pub(crate) enum Scalar {
+pub enum Scalar {
     MakeArray,
     Error,
     Comparison(Relate),
@@ -26,7 +26,7 @@ pub(crate) enum Scalar {
 
 /// Edits of arrays, and arrays as sets.
 #[derive(Clone, Copy)]
-pub(crate) enum OnArray {
+pub enum OnArray {
     /// APPEND and PREPEND.
     AtEnd(Edit),
     /// INSERT_AT and CHANGE_AT.
@@ -37,170 +37,118 @@ pub(crate) enum OnArray {
     AsSets(SetOp),
 }
 
-/// On the fields of objects.
+/// On the elements of sequences.
 #[derive(Clone, Copy)]
-pub(crate) enum OnFields {
-    GetField,
-    Bracket,
-    HasFields,
-    Pluck,
-    Without,
-    WithFields,
-    Merge,
-    Keys,
-    Values,
-    Object,
-}
-
-/// On sequences, by functions or keys.
-#[derive(Clone, Copy)]
-pub(crate) enum OnSequence {
-    Reduce,
-    Map,
-    Filter,
-    ConcatMap,
-    OrderBy,
-    Distinct,
+pub enum OnSequence {
     Count,
-    OffsetsOf,
     Contains,
 }
 
-/// Parts of sequences, and sequences made of others or of numbers.
+/// Parts of sequences.
 #[derive(Clone, Copy)]
-pub(crate) enum OnPart {
-    Union,
-    Slice,
+pub enum OnPart {
     Skip,
     Limit,
-    Nth,
     IsEmpty,
-    Range,
 }
 
-/// Joins, groups and totals.
+/// An operator by what it works on.
 #[derive(Clone, Copy)]
-pub(crate) enum Joining {
-    /// Outer, or inner.
-    Join(bool),
-    EqJoin,
-    Zip,
-    Group,
-    Ungroup,
-    Aggregate(Total),
-}
-
-/// On tables and databases.
-#[derive(Clone, Copy)]
-pub(crate) enum OnTable {
-    Db,
-    Get,
-    GetAll,
-    Between,
-    IndexList,
-    IndexStatus,
-    Info,
-    Config,
-    Status,
-}
-
-#[derive(Clone, Copy)]
-pub(crate) enum Kind {
+pub enum Kind {
     Scalar(Scalar),
     OnArray(OnArray),
-    OnFields(OnFields),
     OnSequence(OnSequence),
     OnPart(OnPart),
-    Joining(Joining),
-    OnTable(OnTable),
     /// No operator on values.
     Misplaced,
 }
 
-/// The kind of an operator.
-pub(crate) fn kind_of(op: Op) -> Kind
-    ensures { kind_rule result ≡ rule_of op }
+/// The kind of an operator whose rule is called here. None for the others: those on the fields of
+/// objects, on tables, joins and groups, and some on sequences.
+pub fn kind_of(op: Op) -> Option<Kind>
+    ensures called { is_some result ≡ is_called op }
+    ensures rule { MatchOption result ⊤ (λ kind. kind_rule kind ≡ rule_of op) }
 {
     match op {
-        Op::MakeArray => Kind::Scalar(Scalar::MakeArray),
-        Op::Error => Kind::Scalar(Scalar::Error),
-        Op::Eq => Kind::Scalar(Scalar::Comparison(Relate::Eq)),
-        Op::Ne => Kind::Scalar(Scalar::Comparison(Relate::Ne)),
-        Op::Lt => Kind::Scalar(Scalar::Comparison(Relate::Lt)),
-        Op::Le => Kind::Scalar(Scalar::Comparison(Relate::Le)),
-        Op::Gt => Kind::Scalar(Scalar::Comparison(Relate::Gt)),
-        Op::Ge => Kind::Scalar(Scalar::Comparison(Relate::Ge)),
-        Op::Not => Kind::Scalar(Scalar::Not),
-        Op::Add => Kind::Scalar(Scalar::Arithmetic(Arith::Add)),
-        Op::Sub => Kind::Scalar(Scalar::Arithmetic(Arith::Sub)),
-        Op::Mul => Kind::Scalar(Scalar::Arithmetic(Arith::Mul)),
-        Op::Div => Kind::Scalar(Scalar::Arithmetic(Arith::Div)),
-        Op::Mod => Kind::Scalar(Scalar::Arithmetic(Arith::Mod)),
-        Op::CoerceTo => Kind::Scalar(Scalar::CoerceTo),
-        Op::TypeOf => Kind::Scalar(Scalar::TypeOf),
-        Op::Funcall => Kind::Scalar(Scalar::Funcall),
-        Op::Literal => Kind::Scalar(Scalar::Literal),
-        Op::Minval => Kind::Scalar(Scalar::Minval),
-        Op::Maxval => Kind::Scalar(Scalar::Maxval),
-        Op::EpochTime => Kind::Scalar(Scalar::EpochTime),
-        Op::ToEpochTime => Kind::Scalar(Scalar::ToEpochTime),
-        Op::Append => Kind::OnArray(OnArray::AtEnd(Edit::Append)),
-        Op::Prepend => Kind::OnArray(OnArray::AtEnd(Edit::Prepend)),
-        Op::InsertAt => Kind::OnArray(OnArray::AtPlace(Edit::InsertAt)),
-        Op::ChangeAt => Kind::OnArray(OnArray::AtPlace(Edit::ChangeAt)),
-        Op::DeleteAt => Kind::OnArray(OnArray::DeleteAt),
-        Op::SpliceAt => Kind::OnArray(OnArray::SpliceAt),
-        Op::SetInsert => Kind::OnArray(OnArray::SetInsert),
-        Op::SetUnion => Kind::OnArray(OnArray::AsSets(SetOp::SetUnion)),
-        Op::SetIntersection => Kind::OnArray(OnArray::AsSets(SetOp::SetIntersection)),
-        Op::SetDifference => Kind::OnArray(OnArray::AsSets(SetOp::SetDifference)),
-        Op::Difference => Kind::OnArray(OnArray::AsSets(SetOp::Difference)),
-        Op::GetField => Kind::OnFields(OnFields::GetField),
-        Op::Bracket => Kind::OnFields(OnFields::Bracket),
-        Op::HasFields => Kind::OnFields(OnFields::HasFields),
-        Op::Pluck => Kind::OnFields(OnFields::Pluck),
-        Op::Without => Kind::OnFields(OnFields::Without),
-        Op::WithFields => Kind::OnFields(OnFields::WithFields),
-        Op::Merge => Kind::OnFields(OnFields::Merge),
-        Op::Keys => Kind::OnFields(OnFields::Keys),
-        Op::Values => Kind::OnFields(OnFields::Values),
-        Op::Object => Kind::OnFields(OnFields::Object),
-        Op::Reduce => Kind::OnSequence(OnSequence::Reduce),
-        Op::Map => Kind::OnSequence(OnSequence::Map),
-        Op::Filter => Kind::OnSequence(OnSequence::Filter),
-        Op::ConcatMap => Kind::OnSequence(OnSequence::ConcatMap),
-        Op::OrderBy => Kind::OnSequence(OnSequence::OrderBy),
-        Op::Distinct => Kind::OnSequence(OnSequence::Distinct),
-        Op::Count => Kind::OnSequence(OnSequence::Count),
-        Op::OffsetsOf => Kind::OnSequence(OnSequence::OffsetsOf),
-        Op::Contains => Kind::OnSequence(OnSequence::Contains),
-        Op::Union => Kind::OnPart(OnPart::Union),
-        Op::Slice => Kind::OnPart(OnPart::Slice),
-        Op::Skip => Kind::OnPart(OnPart::Skip),
-        Op::Limit => Kind::OnPart(OnPart::Limit),
-        Op::Nth => Kind::OnPart(OnPart::Nth),
-        Op::IsEmpty => Kind::OnPart(OnPart::IsEmpty),
-        Op::Range => Kind::OnPart(OnPart::Range),
-        Op::InnerJoin => Kind::Joining(Joining::Join(false)),
-        Op::OuterJoin => Kind::Joining(Joining::Join(true)),
-        Op::EqJoin => Kind::Joining(Joining::EqJoin),
-        Op::Zip => Kind::Joining(Joining::Zip),
-        Op::Group => Kind::Joining(Joining::Group),
-        Op::Ungroup => Kind::Joining(Joining::Ungroup),
-        Op::Sum => Kind::Joining(Joining::Aggregate(Total::Sum)),
-        Op::Avg => Kind::Joining(Joining::Aggregate(Total::Avg)),
-        Op::Min => Kind::Joining(Joining::Aggregate(Total::Min)),
-        Op::Max => Kind::Joining(Joining::Aggregate(Total::Max)),
-        Op::Db => Kind::OnTable(OnTable::Db),
-        Op::Get => Kind::OnTable(OnTable::Get),
-        Op::GetAll => Kind::OnTable(OnTable::GetAll),
-        Op::Between => Kind::OnTable(OnTable::Between),
-        Op::IndexList => Kind::OnTable(OnTable::IndexList),
-        Op::IndexStatus => Kind::OnTable(OnTable::IndexStatus),
-        Op::IndexWait => Kind::OnTable(OnTable::IndexStatus),
-        Op::Info => Kind::OnTable(OnTable::Info),
-        Op::Config => Kind::OnTable(OnTable::Config),
-        Op::Status => Kind::OnTable(OnTable::Status),
-        _ => Kind::Misplaced,
+        Op::MakeArray => Some(Kind::Scalar(Scalar::MakeArray)),
+        Op::Error => Some(Kind::Scalar(Scalar::Error)),
+        Op::Eq => Some(Kind::Scalar(Scalar::Comparison(Relate::Eq))),
+        Op::Ne => Some(Kind::Scalar(Scalar::Comparison(Relate::Ne))),
+        Op::Lt => Some(Kind::Scalar(Scalar::Comparison(Relate::Lt))),
+        Op::Le => Some(Kind::Scalar(Scalar::Comparison(Relate::Le))),
+        Op::Gt => Some(Kind::Scalar(Scalar::Comparison(Relate::Gt))),
+        Op::Ge => Some(Kind::Scalar(Scalar::Comparison(Relate::Ge))),
+        Op::Not => Some(Kind::Scalar(Scalar::Not)),
+        Op::Add => Some(Kind::Scalar(Scalar::Arithmetic(Arith::Add))),
+        Op::Sub => Some(Kind::Scalar(Scalar::Arithmetic(Arith::Sub))),
+        Op::Mul => Some(Kind::Scalar(Scalar::Arithmetic(Arith::Mul))),
+        Op::Div => Some(Kind::Scalar(Scalar::Arithmetic(Arith::Div))),
+        Op::Mod => Some(Kind::Scalar(Scalar::Arithmetic(Arith::Mod))),
+        Op::CoerceTo => Some(Kind::Scalar(Scalar::CoerceTo)),
+        Op::TypeOf => Some(Kind::Scalar(Scalar::TypeOf)),
+        Op::Funcall => Some(Kind::Scalar(Scalar::Funcall)),
+        Op::Literal => Some(Kind::Scalar(Scalar::Literal)),
+        Op::Minval => Some(Kind::Scalar(Scalar::Minval)),
+        Op::Maxval => Some(Kind::Scalar(Scalar::Maxval)),
+        Op::EpochTime => Some(Kind::Scalar(Scalar::EpochTime)),
+        Op::ToEpochTime => Some(Kind::Scalar(Scalar::ToEpochTime)),
+        Op::Append => Some(Kind::OnArray(OnArray::AtEnd(Edit::Append))),
+        Op::Prepend => Some(Kind::OnArray(OnArray::AtEnd(Edit::Prepend))),
+        Op::InsertAt => Some(Kind::OnArray(OnArray::AtPlace(Edit::InsertAt))),
+        Op::ChangeAt => Some(Kind::OnArray(OnArray::AtPlace(Edit::ChangeAt))),
+        Op::DeleteAt => Some(Kind::OnArray(OnArray::DeleteAt)),
+        Op::SpliceAt => Some(Kind::OnArray(OnArray::SpliceAt)),
+        Op::SetInsert => Some(Kind::OnArray(OnArray::SetInsert)),
+        Op::SetUnion => Some(Kind::OnArray(OnArray::AsSets(SetOp::SetUnion))),
+        Op::SetIntersection => Some(Kind::OnArray(OnArray::AsSets(SetOp::SetIntersection))),
+        Op::SetDifference => Some(Kind::OnArray(OnArray::AsSets(SetOp::SetDifference))),
+        Op::Difference => Some(Kind::OnArray(OnArray::AsSets(SetOp::Difference))),
+        Op::Count => Some(Kind::OnSequence(OnSequence::Count)),
+        Op::Contains => Some(Kind::OnSequence(OnSequence::Contains)),
+        Op::Skip => Some(Kind::OnPart(OnPart::Skip)),
+        Op::Limit => Some(Kind::OnPart(OnPart::Limit)),
+        Op::IsEmpty => Some(Kind::OnPart(OnPart::IsEmpty)),
+        Op::GetField => None,
+        Op::Bracket => None,
+        Op::HasFields => None,
+        Op::Pluck => None,
+        Op::Without => None,
+        Op::WithFields => None,
+        Op::Merge => None,
+        Op::Keys => None,
+        Op::Values => None,
+        Op::Object => None,
+        Op::Reduce => None,
+        Op::Map => None,
+        Op::Filter => None,
+        Op::ConcatMap => None,
+        Op::OrderBy => None,
+        Op::Distinct => None,
+        Op::OffsetsOf => None,
+        Op::Union => None,
+        Op::Slice => None,
+        Op::Nth => None,
+        Op::Range => None,
+        Op::InnerJoin => None,
+        Op::OuterJoin => None,
+        Op::EqJoin => None,
+        Op::Zip => None,
+        Op::Group => None,
+        Op::Ungroup => None,
+        Op::Sum => None,
+        Op::Avg => None,
+        Op::Min => None,
+        Op::Max => None,
+        Op::Db => None,
+        Op::Get => None,
+        Op::GetAll => None,
+        Op::Between => None,
+        Op::IndexList => None,
+        Op::IndexStatus => None,
+        Op::IndexWait => None,
+        Op::Info => None,
+        Op::Config => None,
+        Op::Status => None,
+        _ => Some(Kind::Misplaced),
     }
 }

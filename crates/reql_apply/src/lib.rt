@@ -1,4 +1,4 @@
-//! Every operator by its rule, at once or on the members of each group.
+//! Operators by their rules, at once or on the members of each group.
 #![tactic(auto)]
 
 mod groups;
@@ -7,4 +7,5 @@ mod operators;
 mod wrapped;
 
 pub use groups::{at_once, by_groups, on_groups};
+pub use kinds::{Kind, OnArray, OnPart, OnSequence, Scalar, kind_of};
 pub use operators::apply;

@@ -1,22 +1,22 @@
 // An operator applied to what its arguments gave.
 ghost use Rattle.reql_datum.specs.Outcome.{Gives};
 ghost use Rattle.reql_value.specs.Meant.{Calls};
-ghost use Rattle.reql_value.specs.Table.{rule_of};
 ghost use Rattle.reql_value.specs.World.{World as Seen};
 ghost use Rattle.reql_operand.specs.Called.{Answers};
 ghost use Rattle.reql_operand.specs.Seen.{meant, all_shown, all_chosen};
 ghost use Rattle.reql_operand.specs.Tables.{seen};
-ghost use Rattle.reql_apply.specs.Kinds.{kind_rule, scalar_rule, array_rule};
+ghost use Rattle.reql_apply.specs.Kinds.{kind_rule, scalar_rule, array_rule, sequence_rule, part_rule};
 
-use crate::kinds::{Kind, OnArray, Scalar, kind_of};
+use crate::kinds::{Kind, OnArray, OnPart, OnSequence, Scalar};
 use crate::wrapped::{array, one};
 use reql_apply_scalar::{
     arithmetic, coerce_to, comparison, constant, delete_at, end_edit, epoch_time, funcall, literal,
     make_array, place_edit, set_insert, set_operation, splice_at, to_epoch_time,
 };
+use reql_apply_seq::{contains, count, is_empty, limit, skip};
 use reql_datum::{Datum, Fault};
 use reql_operand::{Arg, Choice, Value, World, misplaced, negation, raise, type_of};
-use reql_term::{Op, TableView};
+use reql_term::TableView;
 use std::alloc::Global;
 
 fn by_scalar<V: TableView, F: Fn(usize, &[Datum]) -> Result<Value, Fault>>(
@@ -63,7 +63,46 @@ fn by_array(alloc: Global, op: OnArray, args: &[Arg], opts: &[Choice]) -> Result
     }
 }
 
-fn by_kind<V: TableView, F: Fn(usize, &[Datum]) -> Result<Value, Fault>>(
+fn by_sequence<V: TableView, F: Fn(usize, &[Datum]) -> Result<Value, Fault>>(
+    alloc: Global,
+    op: OnSequence,
+    args: &[Arg],
+    opts: &[Choice],
+    world: &World<V>,
+    call: &F,
+) -> Result<Value, Fault>
+    requires { F.IsAlwaysCallable call.now }
+    ensures { let w = seen V.documents V.indexes V.entries world.now in
+        (calls : Calls) → Answers w F.Fn call.now calls → Gives (meant w) result
+        (sequence_rule op w calls (all_shown w args.now) (all_chosen w opts.now)) }
+{
+    match op {
+        OnSequence::Count => one(count(alloc, args, world, call)),
+        OnSequence::Contains => one(contains(alloc, args, world, call)),
+    }
+}
+
+fn by_part<V: TableView>(
+    alloc: Global,
+    op: OnPart,
+    args: &[Arg],
+    opts: &[Choice],
+    world: &World<V>,
+) -> Result<Value, Fault>
+    ensures { let w = seen V.documents V.indexes V.entries world.now in
+        (calls : Calls) → Gives (meant w) result
+        (part_rule op w calls (all_shown w args.now) (all_chosen w opts.now)) }
+{
+    match op {
+        OnPart::Skip => skip(alloc, args, world),
+        OnPart::Limit => limit(alloc, args, world),
+        OnPart::IsEmpty => one(is_empty(alloc, args, world)),
+    }
+}
+
+/// An operator by the rule of its kind. Faults where the rule does; terms that are no operators on
+/// values are misplaced.
+pub fn apply<V: TableView, F: Fn(usize, &[Datum]) -> Result<Value, Fault>>(
     alloc: Global,
     kind: Kind,
     args: &[Arg],
@@ -79,28 +118,8 @@ fn by_kind<V: TableView, F: Fn(usize, &[Datum]) -> Result<Value, Fault>>(
     match kind {
         Kind::Scalar(op) => by_scalar(alloc, op, args, opts, world, call),
         Kind::OnArray(op) => by_array(alloc, op, args, opts),
+        Kind::OnSequence(op) => by_sequence(alloc, op, args, opts, world, call),
+        Kind::OnPart(op) => by_part(alloc, op, args, opts, world),
         Kind::Misplaced => Err(Fault::QueryLogic(misplaced(alloc)?)),
-        // The rules of the other kinds aren't called yet.
-        _ => Err(Fault::Memory),
     }
-}
-
-/// An operator by its rule in the table of operators.
-///
-/// Faults where the rule does; terms that are no operators on values are misplaced. Operators on
-/// fields, sequences, joins, groups and tables give Memory, until their rules are called here.
-pub fn apply<V: TableView, F: Fn(usize, &[Datum]) -> Result<Value, Fault>>(
-    alloc: Global,
-    op: Op,
-    args: &[Arg],
-    opts: &[Choice],
-    world: &World<V>,
-    call: &F,
-) -> Result<Value, Fault>
-    requires { F.IsAlwaysCallable call.now }
-    ensures { let w = seen V.documents V.indexes V.entries world.now in
-        (calls : Calls) → Answers w F.Fn call.now calls
-        → Gives (meant w) result (rule_of op w calls (all_shown w args.now) (all_chosen w opts.now)) }
-{
-    by_kind(alloc, kind_of(op), args, opts, world, call)
 }

@@ -1,5 +1,16 @@
-use Rattle.std.proofs.Common.{sym}
+use Rattle.reql_operand.specs.Tables.{seen}
 use Rattle.reql_apply.proofs.operators.apply.Goals as goal
 
-pub returns : goal.returns
-returns g c calls h = rw (sym c.kind_of.ensures) (c.by_kind.ensures calls h)
+pub returns-in-Scalar : goal.returns-in-Scalar
+returns-in-Scalar g c calls h = rw c.in-Scalar.is (c.by_scalar.ensures calls h)
+
+pub returns-in-OnArray : goal.returns-in-OnArray
+returns-in-OnArray g c calls h =
+    let w = seen g.V.TableView.documents g.V.TableView.indexes g.V.TableView.entries c.args.world.now in
+    rw c.in-OnArray.is (c.by_array.ensures w calls)
+
+pub returns-in-OnSequence : goal.returns-in-OnSequence
+returns-in-OnSequence g c calls h = rw c.in-OnSequence.is (c.by_sequence.ensures calls h)
+
+pub returns-in-OnPart : goal.returns-in-OnPart
+returns-in-OnPart g c calls h = rw c.in-OnPart.is (c.by_part.ensures calls)

@@ -1,0 +1,18 @@
+use Rattle.reql_operand.specs.Seen.{all_chosen}
+use Rattle.reql_operand.specs.Tables.{seen}
+use Rattle.reql_apply.proofs.operators.by_part.Goals as goal
+
+pub returns-in-Skip : goal.returns-in-Skip
+returns-in-Skip g c calls =
+    let w = seen g.V.TableView.documents g.V.TableView.indexes g.V.TableView.entries c.args.world.now in
+    rw c.in-Skip.is (c.skip.ensures calls (all_chosen w c.args.opts.now))
+
+pub returns-in-Limit : goal.returns-in-Limit
+returns-in-Limit g c calls =
+    let w = seen g.V.TableView.documents g.V.TableView.indexes g.V.TableView.entries c.args.world.now in
+    rw c.in-Limit.is (c.limit.ensures calls (all_chosen w c.args.opts.now))
+
+pub returns-in-IsEmpty : goal.returns-in-IsEmpty
+returns-in-IsEmpty g c calls =
+    let w = seen g.V.TableView.documents g.V.TableView.indexes g.V.TableView.entries c.args.world.now in
+    rw c.in-IsEmpty.is (c.one.ensures w _ (c.is_empty.ensures calls (all_chosen w c.args.opts.now)))

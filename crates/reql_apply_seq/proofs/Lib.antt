@@ -1,0 +1,4 @@
+pub mod Slices
+pub mod Arrays
+pub mod Steps
+pub mod Ranges

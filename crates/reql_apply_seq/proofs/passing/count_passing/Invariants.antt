@@ -1,0 +1,18 @@
+use Rattle.std.proofs.Common.{◌≡◌, ◌≤◌, ◌-◌, length, drop}
+use Rattle.reql_rules.specs.Mapping.{passing}
+use Rattle.reql_value.specs.Called.{passes}
+use Rattle.reql_value.specs.Meant.{Calls}
+use Rattle.reql_value.specs.World.{World}
+use Rattle.reql_operand.specs.Called.{Answers}
+use Rattle.reql_operand.specs.Seen.{shown}
+use Rattle.reql_apply_seq.specs.Passing.{counting, count_on}
+use Rattle.reql_apply_seq.proofs.passing.count_passing.Given as goal
+
+abbrev pub invariant-loop-item : goal.invariant-loop-item
+invariant-loop-item g l =
+    (l.passed ≤ l.place)
+    × ((w : World) (calls : Calls) → Answers w g.F.Fn l.call calls
+    → counting (passing (passes calls (shown w l.f)) l.items) ≡ count_on l.passed (passing (passes calls (shown w l.f)) (drop l.place l.items)))
+
+abbrev pub decreases-loop-item : goal.decreases-loop-item
+decreases-loop-item g l = length l.items - l.place

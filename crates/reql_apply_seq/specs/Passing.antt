@@ -1,0 +1,17 @@
+-- How many elements pass, and whether some do, after so many.
+use Rattle.std.specs.Prelude.{ℕ, ◌+◌, length, List, Bool, ◌||◌, ◌&&◌, Ok}
+use Rattle.reql_datum.specs.Answer.{Answer, ◌>>=◌}
+use Rattle.reql_datum.specs.Plain.{Plain}
+use Rattle.reql_rules.specs.Places.{counted_as}
+
+abbrev pub counting : Answer (List Plain) → Answer Plain
+counting a = a >>= λ es. Ok (counted_as (length es))
+
+abbrev pub count_on : ℕ → Answer (List Plain) → Answer Plain
+count_on n a = a >>= λ es. Ok (counted_as (n + length es))
+
+abbrev pub or_on : Bool → Answer Bool → Answer Bool
+or_on b a = a >>= λ c. Ok (b || c)
+
+abbrev pub and_on : Bool → Answer Bool → Answer Bool
+and_on b a = a >>= λ c. Ok (b && c)

@@ -1,0 +1,18 @@
+//! The operators on sequences: arguments in, value out, each by its rule.
+//!
+//! Of a table or a slice of one no more is read than is given.
+#![tactic(auto)]
+
+mod counting;
+mod joining;
+mod parts;
+mod passing;
+mod places;
+mod ranging;
+mod source;
+
+pub use counting::count;
+pub use joining::union;
+pub use parts::{is_empty, limit, skip};
+pub use passing::contains;
+pub use ranging::range;
