@@ -5,8 +5,10 @@ use Rattle.reql_value.specs.Arrays.{end_edit, place_edit, delete_at, splice_at, 
 use Rattle.reql_value.specs.Coercions.{coerce_to}
 use Rattle.reql_value.specs.Meant.{Rule}
 use Rattle.reql_value.specs.Scalars.{make_array, raise, funcall, type_of, literal, constant, comparison, negation, arithmetic, epoch_time, to_epoch_time}
-use Rattle.reql_value.specs.Sequenced.{datum, array, alike_first}
-use Rattle.reql_value.specs.Sequences.{count_rule, counted_part, is_empty, contains}
+use Rattle.reql_value.specs.Sequenced.{datum, array, streamed, alike_first}
+use Rattle.reql_value.specs.Sequences.{count_rule, counted_part, is_empty, contains, union_rule, range_rule}
+use Rattle.reql_value.specs.Fields.{get_field_rule, nth_rule, bracket, keys_rule, values_rule}
+use Rattle.reql_value.specs.Tables.{get_rule, between_rule, index_list_rule, db_rule, told, info_of, config_of, status_rule}
 use Rattle.reql_value.specs.Table.{no_rule}
 use Rattle.reql_term.specs.declared.op.Op.{Op}
 use Rattle.reql_term.specs.declared.op.Op.TheVariants as op
@@ -16,6 +18,10 @@ use Rattle.reql_apply.specs.declared.kinds.Scalar.{Scalar}
 use Rattle.reql_apply.specs.declared.kinds.Scalar.TheVariants as s
 use Rattle.reql_apply.specs.declared.kinds.OnArray.{OnArray}
 use Rattle.reql_apply.specs.declared.kinds.OnArray.TheVariants as a
+use Rattle.reql_apply.specs.declared.kinds.OnFields.{OnFields}
+use Rattle.reql_apply.specs.declared.kinds.OnFields.TheVariants as f
+use Rattle.reql_apply.specs.declared.kinds.OnTable.{OnTable}
+use Rattle.reql_apply.specs.declared.kinds.OnTable.TheVariants as t
 use Rattle.reql_apply.specs.declared.kinds.OnSequence.{OnSequence}
 use Rattle.reql_apply.specs.declared.kinds.OnSequence.TheVariants as q
 use Rattle.reql_apply.specs.declared.kinds.OnPart.{OnPart}
@@ -44,33 +50,49 @@ array_rule a.SpliceAt = array splice_at
 array_rule a.SetInsert = array set_insert
 array_rule (a.AsSets op) = array (set_operation op)
 
+abbrev pub fields_rule : OnFields → Rule
+fields_rule f.GetField = get_field_rule
+fields_rule f.Bracket = bracket
+fields_rule f.Keys = datum keys_rule
+fields_rule f.Values = datum values_rule
+
+abbrev pub table_rule : OnTable → Rule
+table_rule t.Db = db_rule
+table_rule t.Get = get_rule
+table_rule t.Between = between_rule
+table_rule t.IndexList = array index_list_rule
+table_rule t.Info = datum (told info_of)
+table_rule t.Config = datum (told config_of)
+table_rule t.Status = datum status_rule
+
 abbrev pub sequence_rule : OnSequence → Rule
 sequence_rule q.Count = datum count_rule
 sequence_rule q.Contains = datum contains
 
 abbrev pub part_rule : OnPart → Rule
+part_rule p.Union = union_rule
 part_rule p.Skip = alike_first (counted_part drop)
 part_rule p.Limit = alike_first (counted_part take)
+part_rule p.Nth = datum nth_rule
 part_rule p.IsEmpty = datum is_empty
+part_rule p.Range = streamed range_rule
 
 abbrev pub kind_rule : Kind → Rule
 kind_rule (k.Scalar op) = scalar_rule op
 kind_rule (k.OnArray op) = array_rule op
+kind_rule (k.OnFields op) = fields_rule op
+kind_rule (k.OnTable op) = table_rule op
 kind_rule (k.OnSequence op) = sequence_rule op
 kind_rule (k.OnPart op) = part_rule op
 kind_rule k.Misplaced = no_rule
 
 -- whether the rule of an operator is called by its kind
 abbrev pub is_called : Op → Bool
-is_called op.GetField = false
-is_called op.Bracket = false
 is_called op.HasFields = false
 is_called op.Pluck = false
 is_called op.Without = false
 is_called op.WithFields = false
 is_called op.Merge = false
-is_called op.Keys = false
-is_called op.Values = false
 is_called op.Object = false
 is_called op.Reduce = false
 is_called op.Map = false
@@ -79,10 +101,7 @@ is_called op.ConcatMap = false
 is_called op.OrderBy = false
 is_called op.Distinct = false
 is_called op.OffsetsOf = false
-is_called op.Union = false
 is_called op.Slice = false
-is_called op.Nth = false
-is_called op.Range = false
 is_called op.InnerJoin = false
 is_called op.OuterJoin = false
 is_called op.EqJoin = false
@@ -93,14 +112,7 @@ is_called op.Sum = false
 is_called op.Avg = false
 is_called op.Min = false
 is_called op.Max = false
-is_called op.Db = false
-is_called op.Get = false
 is_called op.GetAll = false
-is_called op.Between = false
-is_called op.IndexList = false
 is_called op.IndexStatus = false
 is_called op.IndexWait = false
-is_called op.Info = false
-is_called op.Config = false
-is_called op.Status = false
 is_called o = true

@@ -1,15 +1,18 @@
--- What a rule gives as a value: a document, an array, or groups.
+-- What a rule gives as a value: a document, an array, a stream, or groups.
 use Rattle.std.specs.Prelude.{List, Ok}
 use Rattle.reql_datum.specs.Answer.{Answer, ◌>>=◌}
 use Rattle.reql_datum.specs.Plain.{Plain}
 use Rattle.reql_rules.specs.Lists.{array_of}
-use Rattle.reql_value.specs.Meant.{Meant, one, grouped}
+use Rattle.reql_value.specs.Meant.{Meant, one, stream, grouped}
 
 abbrev pub of_datum : Answer Plain → Answer Meant
 of_datum a = a >>= λ d. Ok (one d)
 
 abbrev pub of_array : Answer (List Plain) → Answer Meant
 of_array a = a >>= λ ds. Ok (one (array_of ds))
+
+abbrev pub of_stream : Answer (List Plain) → Answer Meant
+of_stream a = a >>= λ ds. Ok (stream ds)
 
 abbrev pub of_groups : Answer (List (Plain × Plain)) → Answer Meant
 of_groups a = a >>= λ gs. Ok (grouped gs)

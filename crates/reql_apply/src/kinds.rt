@@ -37,6 +37,27 @@ pub enum OnArray {
     AsSets(SetOp),
 }
 
+/// On the fields of objects.
+#[derive(Clone, Copy)]
+pub enum OnFields {
+    GetField,
+    Bracket,
+    Keys,
+    Values,
+}
+
+/// On tables and databases.
+#[derive(Clone, Copy)]
+pub enum OnTable {
+    Db,
+    Get,
+    Between,
+    IndexList,
+    Info,
+    Config,
+    Status,
+}
+
 /// On the elements of sequences.
 #[derive(Clone, Copy)]
 pub enum OnSequence {
@@ -44,12 +65,15 @@ pub enum OnSequence {
     Contains,
 }
 
-/// Parts of sequences.
+/// Parts of sequences, and sequences made of others or of numbers.
 #[derive(Clone, Copy)]
 pub enum OnPart {
+    Union,
     Skip,
     Limit,
+    Nth,
     IsEmpty,
+    Range,
 }
 
 /// An operator by what it works on.
@@ -57,14 +81,16 @@ pub enum OnPart {
 pub enum Kind {
     Scalar(Scalar),
     OnArray(OnArray),
+    OnFields(OnFields),
+    OnTable(OnTable),
     OnSequence(OnSequence),
     OnPart(OnPart),
     /// No operator on values.
     Misplaced,
 }
 
-/// The kind of an operator whose rule is called here. None for the others: those on the fields of
-/// objects, on tables, joins and groups, and some on sequences.
+/// The kind of an operator whose rule is called here. None for the others: joins, groups, field
+/// patterns, GET_ALL and INDEX_STATUS, and most of those that call functions.
 pub fn kind_of(op: Op) -> Option<Kind>
     ensures called { is_some result ≡ is_called op }
     ensures rule { MatchOption result ⊤ (λ kind. kind_rule kind ≡ rule_of op) }
@@ -108,15 +134,15 @@ pub fn kind_of(op: Op) -> Option<Kind>
         Op::Skip => Some(Kind::OnPart(OnPart::Skip)),
         Op::Limit => Some(Kind::OnPart(OnPart::Limit)),
         Op::IsEmpty => Some(Kind::OnPart(OnPart::IsEmpty)),
-        Op::GetField => None,
-        Op::Bracket => None,
+        Op::GetField => Some(Kind::OnFields(OnFields::GetField)),
+        Op::Bracket => Some(Kind::OnFields(OnFields::Bracket)),
         Op::HasFields => None,
         Op::Pluck => None,
         Op::Without => None,
         Op::WithFields => None,
         Op::Merge => None,
-        Op::Keys => None,
-        Op::Values => None,
+        Op::Keys => Some(Kind::OnFields(OnFields::Keys)),
+        Op::Values => Some(Kind::OnFields(OnFields::Values)),
         Op::Object => None,
         Op::Reduce => None,
         Op::Map => None,
@@ -125,10 +151,10 @@ pub fn kind_of(op: Op) -> Option<Kind>
         Op::OrderBy => None,
         Op::Distinct => None,
         Op::OffsetsOf => None,
-        Op::Union => None,
+        Op::Union => Some(Kind::OnPart(OnPart::Union)),
         Op::Slice => None,
-        Op::Nth => None,
-        Op::Range => None,
+        Op::Nth => Some(Kind::OnPart(OnPart::Nth)),
+        Op::Range => Some(Kind::OnPart(OnPart::Range)),
         Op::InnerJoin => None,
         Op::OuterJoin => None,
         Op::EqJoin => None,
@@ -139,16 +165,16 @@ pub fn kind_of(op: Op) -> Option<Kind>
         Op::Avg => None,
         Op::Min => None,
         Op::Max => None,
-        Op::Db => None,
-        Op::Get => None,
+        Op::Db => Some(Kind::OnTable(OnTable::Db)),
+        Op::Get => Some(Kind::OnTable(OnTable::Get)),
         Op::GetAll => None,
-        Op::Between => None,
-        Op::IndexList => None,
+        Op::Between => Some(Kind::OnTable(OnTable::Between)),
+        Op::IndexList => Some(Kind::OnTable(OnTable::IndexList)),
         Op::IndexStatus => None,
         Op::IndexWait => None,
-        Op::Info => None,
-        Op::Config => None,
-        Op::Status => None,
+        Op::Info => Some(Kind::OnTable(OnTable::Info)),
+        Op::Config => Some(Kind::OnTable(OnTable::Config)),
+        Op::Status => Some(Kind::OnTable(OnTable::Status)),
         _ => Some(Kind::Misplaced),
     }
 }

@@ -7,5 +7,5 @@ mod operators;
 mod wrapped;
 
 pub use groups::{at_once, by_groups, on_groups};
-pub use kinds::{Kind, OnArray, OnPart, OnSequence, Scalar, kind_of};
+pub use kinds::{Kind, OnArray, OnFields, OnPart, OnSequence, OnTable, Scalar, kind_of};
 pub use operators::apply;

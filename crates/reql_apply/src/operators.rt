@@ -5,15 +5,17 @@ ghost use Rattle.reql_value.specs.World.{World as Seen};
 ghost use Rattle.reql_operand.specs.Called.{Answers};
 ghost use Rattle.reql_operand.specs.Seen.{meant, all_shown, all_chosen};
 ghost use Rattle.reql_operand.specs.Tables.{seen};
-ghost use Rattle.reql_apply.specs.Kinds.{kind_rule, scalar_rule, array_rule, sequence_rule, part_rule};
+ghost use Rattle.reql_apply.specs.Kinds.{kind_rule, scalar_rule, array_rule, fields_rule, table_rule, sequence_rule, part_rule};
 
-use crate::kinds::{Kind, OnArray, OnPart, OnSequence, Scalar};
-use crate::wrapped::{array, one};
+use crate::kinds::{Kind, OnArray, OnFields, OnPart, OnSequence, OnTable, Scalar};
+use crate::wrapped::{array, one, stream};
+use reql_apply_path::{bracket, get_field_rule, keys_rule, nth_rule, values_rule};
 use reql_apply_scalar::{
     arithmetic, coerce_to, comparison, constant, delete_at, end_edit, epoch_time, funcall, literal,
     make_array, place_edit, set_insert, set_operation, splice_at, to_epoch_time,
 };
-use reql_apply_seq::{contains, count, is_empty, limit, skip};
+use reql_apply_seq::{contains, count, is_empty, limit, range, skip, union};
+use reql_apply_table::{between, config, db, get, index_list, info, status};
 use reql_datum::{Datum, Fault};
 use reql_operand::{Arg, Choice, Value, World, misplaced, negation, raise, type_of};
 use reql_term::TableView;
@@ -94,9 +96,53 @@ fn by_part<V: TableView>(
         (part_rule op w calls (all_shown w args.now) (all_chosen w opts.now)) }
 {
     match op {
+        OnPart::Union => union(alloc, args, world),
         OnPart::Skip => skip(alloc, args, world),
         OnPart::Limit => limit(alloc, args, world),
+        OnPart::Nth => one(nth_rule(alloc, args, world)),
         OnPart::IsEmpty => one(is_empty(alloc, args, world)),
+        OnPart::Range => stream(range(alloc, args)),
+    }
+}
+
+fn by_fields<V: TableView>(
+    alloc: Global,
+    op: OnFields,
+    args: &[Arg],
+    opts: &[Choice],
+    world: &World<V>,
+) -> Result<Value, Fault>
+    ensures { let w = seen V.documents V.indexes V.entries world.now in
+        (calls : Calls) → Gives (meant w) result
+        (fields_rule op w calls (all_shown w args.now) (all_chosen w opts.now)) }
+{
+    match op {
+        OnFields::GetField => get_field_rule(alloc, args, world),
+        OnFields::Bracket => bracket(alloc, args, world),
+        OnFields::Keys => one(keys_rule(alloc, args)),
+        OnFields::Values => one(values_rule(alloc, args)),
+    }
+}
+
+fn by_table<V: TableView>(
+    alloc: Global,
+    op: OnTable,
+    args: &[Arg],
+    opts: &[Choice],
+    world: &World<V>,
+) -> Result<Value, Fault>
+    ensures { let w = seen V.documents V.indexes V.entries world.now in
+        (calls : Calls) → Gives (meant w) result
+        (table_rule op w calls (all_shown w args.now) (all_chosen w opts.now)) }
+{
+    match op {
+        OnTable::Db => db(alloc, args),
+        OnTable::Get => get(alloc, args, world),
+        OnTable::Between => between(alloc, args, opts, world),
+        OnTable::IndexList => array(index_list(alloc, args, world)),
+        OnTable::Info => one(info(alloc, args, world)),
+        OnTable::Config => one(config(alloc, args, world)),
+        OnTable::Status => one(status(alloc, args, world)),
     }
 }
 
@@ -118,6 +164,8 @@ pub fn apply<V: TableView, F: Fn(usize, &[Datum]) -> Result<Value, Fault>>(
     match kind {
         Kind::Scalar(op) => by_scalar(alloc, op, args, opts, world, call),
         Kind::OnArray(op) => by_array(alloc, op, args, opts),
+        Kind::OnFields(op) => by_fields(alloc, op, args, opts, world),
+        Kind::OnTable(op) => by_table(alloc, op, args, opts, world),
         Kind::OnSequence(op) => by_sequence(alloc, op, args, opts, world, call),
         Kind::OnPart(op) => by_part(alloc, op, args, opts, world),
         Kind::Misplaced => Err(Fault::QueryLogic(misplaced(alloc)?)),

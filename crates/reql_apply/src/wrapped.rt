@@ -6,7 +6,7 @@ ghost use Rattle.reql_datum.specs.Plain.{Plain};
 ghost use Rattle.reql_datum.specs.View.{plain};
 ghost use Rattle.reql_value.specs.World.{World as Seen};
 ghost use Rattle.reql_operand.specs.Seen.{meant, group};
-ghost use Rattle.reql_apply.specs.Wrapped.{of_datum, of_array, of_groups};
+ghost use Rattle.reql_apply.specs.Wrapped.{of_datum, of_array, of_stream, of_groups};
 
 use reql_datum::{Datum, Fault, Items};
 use reql_operand::{Group, Value};
@@ -31,6 +31,18 @@ pub(crate) fn array(found: Result<Items, Fault>) -> Result<Value, Fault>
 {
     match found {
         Ok(items) => Ok(Value::One(Datum::List(items))),
+        Err(fault) => Err(fault),
+    }
+}
+
+/// A stream.
+#[tactic(auto, using(reql_operand::proofs::Steps::fails_on))]
+pub(crate) fn stream(found: Result<Items, Fault>) -> Result<Value, Fault>
+    ensures { (w : Seen) (a : Answer (List Plain)) → Gives (λ items. items) found a
+        → Gives (meant w) result (of_stream a) }
+{
+    match found {
+        Ok(items) => Ok(Value::Stream(items)),
         Err(fault) => Err(fault),
     }
 }

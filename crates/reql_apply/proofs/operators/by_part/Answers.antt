@@ -15,4 +15,19 @@ returns-in-Limit g c calls =
 pub returns-in-IsEmpty : goal.returns-in-IsEmpty
 returns-in-IsEmpty g c calls =
     let w = seen g.V.TableView.documents g.V.TableView.indexes g.V.TableView.entries c.args.world.now in
-    rw c.in-IsEmpty.is (c.one.ensures w _ (c.is_empty.ensures calls (all_chosen w c.args.opts.now)))
+    rw c.in-IsEmpty.is (c.one-in-IsEmpty.ensures w _ (c.is_empty.ensures calls (all_chosen w c.args.opts.now)))
+
+pub returns-in-Union : goal.returns-in-Union
+returns-in-Union g c calls =
+    let w = seen g.V.TableView.documents g.V.TableView.indexes g.V.TableView.entries c.args.world.now in
+    rw c.in-Union.is (c.union.ensures calls (all_chosen w c.args.opts.now))
+
+pub returns-in-Nth : goal.returns-in-Nth
+returns-in-Nth g c calls =
+    let w = seen g.V.TableView.documents g.V.TableView.indexes g.V.TableView.entries c.args.world.now in
+    rw c.in-Nth.is (c.one.ensures w _ (c.nth_rule.ensures calls (all_chosen w c.args.opts.now)))
+
+pub returns-in-Range : goal.returns-in-Range
+returns-in-Range g c calls =
+    let w = seen g.V.TableView.documents g.V.TableView.indexes g.V.TableView.entries c.args.world.now in
+    rw c.in-Range.is (c.stream.ensures w _ (c.range.ensures w calls (all_chosen w c.args.opts.now)))

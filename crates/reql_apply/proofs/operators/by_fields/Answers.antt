@@ -1,0 +1,23 @@
+use Rattle.reql_operand.specs.Seen.{all_chosen}
+use Rattle.reql_operand.specs.Tables.{seen}
+use Rattle.reql_apply.proofs.operators.by_fields.Goals as goal
+
+pub returns-in-GetField : goal.returns-in-GetField
+returns-in-GetField g c calls =
+    let w = seen g.V.TableView.documents g.V.TableView.indexes g.V.TableView.entries c.args.world.now in
+    rw c.in-GetField.is (c.get_field_rule.ensures calls (all_chosen w c.args.opts.now))
+
+pub returns-in-Bracket : goal.returns-in-Bracket
+returns-in-Bracket g c calls =
+    let w = seen g.V.TableView.documents g.V.TableView.indexes g.V.TableView.entries c.args.world.now in
+    rw c.in-Bracket.is (c.bracket.ensures calls (all_chosen w c.args.opts.now))
+
+pub returns-in-Keys : goal.returns-in-Keys
+returns-in-Keys g c calls =
+    let w = seen g.V.TableView.documents g.V.TableView.indexes g.V.TableView.entries c.args.world.now in
+    rw c.in-Keys.is (c.one.ensures w _ (c.keys_rule.ensures w calls (all_chosen w c.args.opts.now)))
+
+pub returns-in-Values : goal.returns-in-Values
+returns-in-Values g c calls =
+    let w = seen g.V.TableView.documents g.V.TableView.indexes g.V.TableView.entries c.args.world.now in
+    rw c.in-Values.is (c.one-in-Values.ensures w _ (c.values_rule.ensures w calls (all_chosen w c.args.opts.now)))
