@@ -189,10 +189,13 @@ fn first_names(alloc: Global, slots: u32) -> Result<Catalog, Memory>
 impl Catalogue {
     /// A catalogue of so many slots, with the database `test` and these tables, each with the key
     /// field `id`, in the slots from 0 on; their databases are made where they are missing. None of
-    /// this is an entry. Pairs that come twice, or break the rule of names, or have no slot left, are
-    /// passed over.
+    /// this is an entry. The table of a pair that comes twice, or breaks the rule of names, or has no
+    /// slot left, is left out; its database is made where its own name is good.
     pub fn new(alloc: Global, tables: &[(Name, Name)], slots: u32) -> Result<Catalogue, Memory>
-        ensures { IfOk result (λ c. c ≡ opening tables.now slots) }
+        ensures opened { IfOk result (λ c. c ≡ opening tables.now slots) }
+        ensures place { IfOk result (λ c. c.names.place ≡ 0) }
+        ensures most { IfOk result (λ c. c.most ≡ slots) }
+        ensures slots { IfOk result (λ c. length c.names.slots ≤ slots) }
     {
         let _few = tables.len();
         let mut known = first_names(alloc, slots)?;

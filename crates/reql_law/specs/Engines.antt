@@ -1,5 +1,5 @@
 -- What engines of tables keep beside the machine.
-use Rattle.std.specs.Prelude.{◌≡◌, ◌<◌, ◌≤◌, ℕ, ◌-◌, ◌^◌, ◌⊎◌, List, map, Bool, false, Option, Some, option_map}
+use Rattle.std.specs.Prelude.{◌≡◌, ◌<◌, ◌≤◌, ℕ, ◌-◌, ◌^◌, ◌⊎◌, List, map, Bool, false, Option, Some, None, option_map}
 use Rattle.reql_datum.specs.Plain.{Plain}
 use Rattle.reql_datum.specs.View.{plain}
 use Rattle.reql_rules.specs.Lists.{Bytes}
@@ -55,3 +55,7 @@ module _ {E : Type 0} (tells : E → E → ℕ → Order → Option Reply → Ty
   abbrev pub KeepsChanges : (E → State) → (E → List (Plain × Option Plain)) → Type 0
   KeepsChanges state kept = (old new : E) (by : ℕ) (o : Order) (r : Reply) → tells old new by o (Some r)
       → kept new ≡ map at_key (changes_at (feeding (state old).most) (state old).table by (known_cmd o.cmd))
+
+  -- and a command that memory was wanted for leaves them
+  abbrev pub LeavesChanges : (E → List (Plain × Option Plain)) → Type 0
+  LeavesChanges kept = (old new : E) (by : ℕ) (o : Order) → tells old new by o None → kept new ≡ kept old

@@ -38,7 +38,7 @@ pub enum Cmd {
     },
     /// Opens a feed, whose owner is who gives the command.
     Subscribe(FeedSpec),
-    /// Takes what waits of a feed, `max` items at most.
+    /// Takes what waits of a feed, `max` items at most; of a feed that squashes all, joined.
     Take {
         feed: u64,
         max: u32,
@@ -46,7 +46,8 @@ pub enum Cmd {
     Unsubscribe {
         feed: u64,
     },
-    /// The table is dropped. Its documents and feeds stay, and it answers Gone.
+    /// The table is dropped. Its documents and feeds stay, and it answers Gone, but for a Take that finds
+    /// items and an Unsubscribe of an open feed, each by its owner.
     Shut,
     /// Nothing but an entry, for who waits until all before it is kept on disk.
     Sync,

@@ -1,7 +1,7 @@
 // The engine of a table.
 ghost use Rattle.std.specs.Prelude.{◌≡◌, ℕ, Option, List, [], map};
 ghost use Rattle.reql_datum.specs.Plain.{Plain};
-ghost use Rattle.reql_law.specs.Engines.{TellsAll, ShowsTables, HoldsEntries, FaultsStay, FailsByFaults, KeepsChanges, kept_of};
+ghost use Rattle.reql_law.specs.Engines.{TellsAll, ShowsTables, HoldsEntries, FaultsStay, FailsByFaults, KeepsChanges, LeavesChanges, kept_of};
 ghost use Rattle.reql_law.specs.Machine as law;
 
 use crate::command::Order;
@@ -85,4 +85,7 @@ pub trait Keeping: TableEngine {
         ensures faults { Self.faults self.new ≡ Self.faults self.old };
 
     ghost keeps: { KeepsChanges Self.tells Self.state kept };
+
+    // A command that memory was wanted for leaves them.
+    ghost keeps_refused: { LeavesChanges Self.tells kept };
 }

@@ -9,7 +9,7 @@ pub struct Limits {
     pub batch: u32,
     /// Turns of one session.
     pub turns: u64,
-    /// Tables that were ever made.
+    /// Tables that may ever be made.
     pub slots: u32,
     /// Open feeds of one table.
     pub feeds: u32,

@@ -23,7 +23,7 @@ pub enum Said {
     FeedsFull {
         count: u32,
     },
-    /// Items of a feed with the stamps of their changes, after so many that were dropped, the last of
+    /// Items of a feed with the stamps of their changes (joined ones with the last), after so many that were dropped, the last of
     /// them at the stamp `last`.
     Batch {
         skipped: u64,

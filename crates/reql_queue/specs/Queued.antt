@@ -17,7 +17,7 @@ module _ {I : Type 0} where
   queued_code c = code_by (List (ℕ × I) × (ℕ × (ℕ × (ℕ × ℕ)))) (coded× (coded_list (coded× coded_ℕ c)) (coded× coded_ℕ (coded× coded_ℕ (coded× coded_ℕ coded_ℕ))))
       (λ q. (q.items, (q.size, (q.room, (q.skipped, q.last))))) (λ p. record { size = p.1.0; room = p.1.1.0; items = p.0; skipped = p.1.1.1.0; last = p.1.1.1.1 }) (λ _. refl)
 
-  -- a queue of which nothing is known but the most that may wait
+  -- a queue of nothing, with no room yet
   abbrev pub fresh : ℕ → Queued I
   fresh size = record { size = size; room = 0; items = []; skipped = 0; last = 0 }
 
