@@ -5,6 +5,7 @@
 
 mod counting;
 mod joining;
+mod mapping;
 mod parts;
 mod passing;
 mod places;
@@ -13,6 +14,7 @@ mod source;
 
 pub use counting::count;
 pub use joining::union;
+pub use mapping::{map, reduce};
 pub use parts::{is_empty, limit, skip};
 pub use passing::contains;
 pub use ranging::range;

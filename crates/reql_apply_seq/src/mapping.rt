@@ -1,0 +1,100 @@
+// MAP and REDUCE.
+ghost use Rattle.reql_datum.specs.Outcome.{Gives};
+ghost use Rattle.reql_datum.specs.View.{plain};
+ghost use Rattle.reql_rules.specs.Lists.{each};
+ghost use Rattle.reql_rules.specs.Mapping.{reduce_all};
+ghost use Rattle.reql_value.specs.Called.{answer_one as answer_one_of, answer_two as answer_two_of};
+ghost use Rattle.reql_value.specs.Meant.{Calls, Options};
+ghost use Rattle.reql_value.specs.Sequenced.{like_first};
+ghost use Rattle.reql_value.specs.Sequences.{map_rule, reduce_rule};
+ghost use Rattle.reql_value.specs.World.{World as Seen};
+ghost use Rattle.reql_operand.specs.Called.{Answers};
+ghost use Rattle.reql_operand.specs.Seen.{meant, shown, all_shown};
+ghost use Rattle.reql_operand.specs.Tables.{seen};
+
+use reql_datum::{Datum, Fault, Items};
+use reql_operand::{Arg, Value, World, answer_one, answer_two, as_sequence, like, misplaced};
+use reql_term::TableView;
+use std::alloc::Global;
+
+/// MAP: what the function answers of each element, in order.
+pub fn map<V: TableView, F: Fn(usize, &[Datum]) -> Result<Value, Fault>>(
+    alloc: Global,
+    args: &[Arg],
+    world: &World<V>,
+    call: &F,
+) -> Result<Value, Fault>
+    requires { F.IsAlwaysCallable call.now }
+    ensures { let w = seen V.documents V.indexes V.entries world.now in
+        (calls : Calls) → Answers w F.Fn call.now calls → (opts : Options)
+        → Gives (meant w) result (like_first map_rule w calls (all_shown w args.now) opts) }
+{
+    match args {
+        [source, f] => {
+            let all = as_sequence(alloc, source, world)?;
+            let answers = map_items(alloc, &all, f, call)?;
+            Ok(like(source, answers))
+        }
+        _ => Err(Fault::QueryLogic(misplaced(alloc)?)),
+    }
+}
+
+fn map_items<F: Fn(usize, &[Datum]) -> Result<Value, Fault>>(
+    alloc: Global,
+    items: &Items,
+    f: &Arg,
+    call: &F,
+) -> Result<Items, Fault>
+    requires { F.IsAlwaysCallable call.now }
+    ensures { (w : Seen) (calls : Calls) → Answers w F.Fn call.now calls
+        → Gives (λ items. items) result (each (answer_one_of calls (shown w f.now)) items.now) }
+{
+    reql_seq::map(
+        alloc,
+        items,
+        &|d: &Datum|
+            requires { F.IsAlwaysCallable call.now }
+        { answer_one(alloc, f, d, call) },
+    )
+}
+
+/// REDUCE: the function of two applied from the left. One element is itself, and of none it is
+/// NON_EXISTENCE.
+pub fn reduce<V: TableView, F: Fn(usize, &[Datum]) -> Result<Value, Fault>>(
+    alloc: Global,
+    args: &[Arg],
+    world: &World<V>,
+    call: &F,
+) -> Result<Datum, Fault>
+    requires { F.IsAlwaysCallable call.now }
+    ensures { let w = seen V.documents V.indexes V.entries world.now in
+        (calls : Calls) → Answers w F.Fn call.now calls → (opts : Options)
+        → Gives plain result (reduce_rule w calls (all_shown w args.now) opts) }
+{
+    match args {
+        [source, f] => {
+            let all = as_sequence(alloc, source, world)?;
+            reduce_items(alloc, &all, f, call)
+        }
+        _ => Err(Fault::QueryLogic(misplaced(alloc)?)),
+    }
+}
+
+fn reduce_items<F: Fn(usize, &[Datum]) -> Result<Value, Fault>>(
+    alloc: Global,
+    items: &Items,
+    f: &Arg,
+    call: &F,
+) -> Result<Datum, Fault>
+    requires { F.IsAlwaysCallable call.now }
+    ensures { (w : Seen) (calls : Calls) → Answers w F.Fn call.now calls
+        → Gives plain result (reduce_all (answer_two_of calls (shown w f.now)) items.now) }
+{
+    reql_seq::reduce(
+        alloc,
+        items,
+        &|d: &Datum, e: &Datum|
+            requires { F.IsAlwaysCallable call.now }
+        { answer_two(alloc, f, d, e, call) },
+    )
+}
