@@ -1,5 +1,5 @@
 -- NTH by the one element that it gives.
-use Rattle.std.proofs.Common.{◌≡◌, refl, sym, ap, ◌∙◌, ℕ, suc, ◌-◌, ◌≤◌, ℤ, pos, negsuc, nat_lt, List, length, Bool, true, false, if◌then◌else◌, Option, Some, None, option_and_then, slice_get, Ok, Err, codes, arith, rules, subst}
+use Rattle.std.proofs.Common.{◌≡◌, refl, sym, ap, ◌∙◌, ℕ, suc, ◌-◌, ℤ, pos, negsuc, nat_lt, List, length, Bool, true, false, if◌then◌else◌, Option, Some, None, option_and_then, slice_get, Ok, Err, codes, rules, subst}
 use Rattle.std.proofs.lemmas.Bool.{ltb-false}
 use Rattle.std.proofs.lemmas.Option.{slice_get_past}
 use Rattle.reql_datum.specs.Answer.{Answer, ◌>>=◌, Reason}

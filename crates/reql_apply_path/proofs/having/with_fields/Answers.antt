@@ -1,0 +1,24 @@
+use Rattle.std.proofs.Common.{List, refl, rules, sym, subst}
+use Rattle.reql_datum.specs.Answer.{Answer}
+use Rattle.reql_datum.specs.Outcome.{Gives}
+use Rattle.reql_datum.specs.Plain.{Plain}
+use Rattle.reql_operand.specs.Seen.{shown}
+use Rattle.reql_operand.specs.Tables.{seen}
+use Rattle.reql_apply_path.specs.Merged.{named_in}
+use Rattle.reql_apply_path.proofs.Patterned.{with_fields_is, with_fields_fails}
+use Rattle.reql_apply_path.proofs.having.with_fields.Goals as goal
+
+pub returns-in_err-pattern-in-len1-up : goal.returns-in_err-pattern-in-len1-up
+returns-in_err-pattern-in-len1-up g c calls opts =
+    let w = seen g.V.TableView.documents g.V.TableView.indexes g.V.TableView.entries c.args.world.now in
+    let fails = with_fields_fails w calls opts (shown w) c.args.args.now _ c.arg-item.result c.in-len1-up.len_at_least c.arg-item.is refl c.in_ok-items-in-len1-up.items c.in_err-pattern-in-len1-up.field-0.0
+    (c.in_ok-items-in-len1-up.ensures) (c.in_err-pattern-in-len1-up.ensures.patterns w) in
+    search (rules, fails)
+
+pub returns-in_ok-pattern-in-len1-up : goal.returns-in_ok-pattern-in-len1-up
+returns-in_ok-pattern-in-len1-up g c calls opts =
+    let w = seen g.V.TableView.documents g.V.TableView.indexes g.V.TableView.entries c.args.world.now in
+    let ps = named_in c.in_ok-pattern-in-len1-up.pattern in
+    let is = with_fields_is w calls opts (shown w) c.args.args.now _ c.arg-item.result c.in-len1-up.len_at_least c.arg-item.is refl c.in_ok-items-in-len1-up.items ps
+    (c.in_ok-items-in-len1-up.ensures) (c.in_ok-pattern-in-len1-up.ensures.patterns w) in
+    subst (λ (r : Answer (List Plain)). Gives (λ items. items) c.those_plucked.result r) (sym is) (c.those_plucked.ensures ps c.in_ok-pattern-in-len1-up.ensures.array)
