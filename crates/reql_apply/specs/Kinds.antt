@@ -5,9 +5,10 @@ use Rattle.reql_value.specs.Arrays.{end_edit, place_edit, delete_at, splice_at, 
 use Rattle.reql_value.specs.Coercions.{coerce_to}
 use Rattle.reql_value.specs.Meant.{Rule}
 use Rattle.reql_value.specs.Scalars.{make_array, raise, funcall, type_of, literal, constant, comparison, negation, arithmetic, epoch_time, to_epoch_time}
-use Rattle.reql_value.specs.Sequenced.{datum, array, streamed, alike_first}
-use Rattle.reql_value.specs.Sequences.{count_rule, counted_part, is_empty, contains, union_rule, range_rule}
-use Rattle.reql_value.specs.Fields.{get_field_rule, nth_rule, bracket, keys_rule, values_rule}
+use Rattle.reql_value.specs.Sequenced.{datum, array, streamed, like_first, alike_first}
+use Rattle.reql_value.specs.Sequences.{reduce_rule, map_rule, count_rule, counted_part, is_empty, contains, union_rule, range_rule}
+use Rattle.reql_value.specs.Fields.{get_field_rule, nth_rule, bracket, has_fields_rule, by_patterns, merge_rule, keys_rule, values_rule, object_rule}
+use Rattle.reql_rules.specs.Patterns.{pluck, without}
 use Rattle.reql_value.specs.Tables.{get_rule, between_rule, index_list_rule, db_rule, told, info_of, config_of, status_rule}
 use Rattle.reql_value.specs.Table.{no_rule}
 use Rattle.reql_term.specs.declared.op.Op.{Op}
@@ -53,8 +54,13 @@ array_rule (a.AsSets op) = array (set_operation op)
 abbrev pub fields_rule : OnFields → Rule
 fields_rule f.GetField = get_field_rule
 fields_rule f.Bracket = bracket
+fields_rule f.HasFields = has_fields_rule
+fields_rule f.Pluck = by_patterns pluck
+fields_rule f.Without = by_patterns without
+fields_rule f.Merge = merge_rule
 fields_rule f.Keys = datum keys_rule
 fields_rule f.Values = datum values_rule
+fields_rule f.Object = datum object_rule
 
 abbrev pub table_rule : OnTable → Rule
 table_rule t.Db = db_rule
@@ -66,6 +72,8 @@ table_rule t.Config = datum (told config_of)
 table_rule t.Status = datum status_rule
 
 abbrev pub sequence_rule : OnSequence → Rule
+sequence_rule q.Reduce = datum reduce_rule
+sequence_rule q.Map = like_first map_rule
 sequence_rule q.Count = datum count_rule
 sequence_rule q.Contains = datum contains
 
@@ -88,14 +96,7 @@ kind_rule k.Misplaced = no_rule
 
 -- whether the rule of an operator is called by its kind
 abbrev pub is_called : Op → Bool
-is_called op.HasFields = false
-is_called op.Pluck = false
-is_called op.Without = false
 is_called op.WithFields = false
-is_called op.Merge = false
-is_called op.Object = false
-is_called op.Reduce = false
-is_called op.Map = false
 is_called op.Filter = false
 is_called op.ConcatMap = false
 is_called op.OrderBy = false

@@ -42,8 +42,13 @@ pub enum OnArray {
 pub enum OnFields {
     GetField,
     Bracket,
+    HasFields,
+    Pluck,
+    Without,
+    Merge,
     Keys,
     Values,
+    Object,
 }
 
 /// On tables and databases.
@@ -61,6 +66,8 @@ pub enum OnTable {
 /// On the elements of sequences.
 #[derive(Clone, Copy)]
 pub enum OnSequence {
+    Reduce,
+    Map,
     Count,
     Contains,
 }
@@ -89,8 +96,8 @@ pub enum Kind {
     Misplaced,
 }
 
-/// The kind of an operator whose rule is called here. None for the others: joins, groups, field
-/// patterns, GET_ALL and INDEX_STATUS, and most of those that call functions.
+/// The kind of an operator whose rule is called here. None for the others: joins, groups,
+/// WITH_FIELDS, GET_ALL and INDEX_STATUS, and some of those on sequences.
 pub fn kind_of(op: Op) -> Option<Kind>
     ensures called { is_some result ≡ is_called op }
     ensures rule { MatchOption result ⊤ (λ kind. kind_rule kind ≡ rule_of op) }
@@ -136,16 +143,16 @@ pub fn kind_of(op: Op) -> Option<Kind>
         Op::IsEmpty => Some(Kind::OnPart(OnPart::IsEmpty)),
         Op::GetField => Some(Kind::OnFields(OnFields::GetField)),
         Op::Bracket => Some(Kind::OnFields(OnFields::Bracket)),
-        Op::HasFields => None,
-        Op::Pluck => None,
-        Op::Without => None,
+        Op::HasFields => Some(Kind::OnFields(OnFields::HasFields)),
+        Op::Pluck => Some(Kind::OnFields(OnFields::Pluck)),
+        Op::Without => Some(Kind::OnFields(OnFields::Without)),
         Op::WithFields => None,
-        Op::Merge => None,
+        Op::Merge => Some(Kind::OnFields(OnFields::Merge)),
         Op::Keys => Some(Kind::OnFields(OnFields::Keys)),
         Op::Values => Some(Kind::OnFields(OnFields::Values)),
-        Op::Object => None,
-        Op::Reduce => None,
-        Op::Map => None,
+        Op::Object => Some(Kind::OnFields(OnFields::Object)),
+        Op::Reduce => Some(Kind::OnSequence(OnSequence::Reduce)),
+        Op::Map => Some(Kind::OnSequence(OnSequence::Map)),
         Op::Filter => None,
         Op::ConcatMap => None,
         Op::OrderBy => None,

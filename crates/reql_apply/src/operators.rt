@@ -9,12 +9,15 @@ ghost use Rattle.reql_apply.specs.Kinds.{kind_rule, scalar_rule, array_rule, fie
 
 use crate::kinds::{Kind, OnArray, OnFields, OnPart, OnSequence, OnTable, Scalar};
 use crate::wrapped::{array, one, stream};
-use reql_apply_path::{bracket, get_field_rule, keys_rule, nth_rule, values_rule};
+use reql_apply_path::{
+    bracket, get_field_rule, has_fields_rule, keys_rule, merge_rule, nth_rule, object_rule,
+    pluck_rule, values_rule, without_rule,
+};
 use reql_apply_scalar::{
     arithmetic, coerce_to, comparison, constant, delete_at, end_edit, epoch_time, funcall, literal,
     make_array, place_edit, set_insert, set_operation, splice_at, to_epoch_time,
 };
-use reql_apply_seq::{contains, count, is_empty, limit, range, skip, union};
+use reql_apply_seq::{contains, count, is_empty, limit, map, range, reduce, skip, union};
 use reql_apply_table::{between, config, db, get, index_list, info, status};
 use reql_datum::{Datum, Fault};
 use reql_operand::{Arg, Choice, Value, World, misplaced, negation, raise, type_of};
@@ -79,6 +82,8 @@ fn by_sequence<V: TableView, F: Fn(usize, &[Datum]) -> Result<Value, Fault>>(
         (sequence_rule op w calls (all_shown w args.now) (all_chosen w opts.now)) }
 {
     match op {
+        OnSequence::Reduce => one(reduce(alloc, args, world, call)),
+        OnSequence::Map => map(alloc, args, world, call),
         OnSequence::Count => one(count(alloc, args, world, call)),
         OnSequence::Contains => one(contains(alloc, args, world, call)),
     }
@@ -105,22 +110,29 @@ fn by_part<V: TableView>(
     }
 }
 
-fn by_fields<V: TableView>(
+fn by_fields<V: TableView, F: Fn(usize, &[Datum]) -> Result<Value, Fault>>(
     alloc: Global,
     op: OnFields,
     args: &[Arg],
     opts: &[Choice],
     world: &World<V>,
+    call: &F,
 ) -> Result<Value, Fault>
+    requires { F.IsAlwaysCallable call.now }
     ensures { let w = seen V.documents V.indexes V.entries world.now in
-        (calls : Calls) → Gives (meant w) result
+        (calls : Calls) → Answers w F.Fn call.now calls → Gives (meant w) result
         (fields_rule op w calls (all_shown w args.now) (all_chosen w opts.now)) }
 {
     match op {
         OnFields::GetField => get_field_rule(alloc, args, world),
         OnFields::Bracket => bracket(alloc, args, world),
+        OnFields::HasFields => has_fields_rule(alloc, args, world),
+        OnFields::Pluck => pluck_rule(alloc, args, world),
+        OnFields::Without => without_rule(alloc, args, world),
+        OnFields::Merge => merge_rule(alloc, args, world, call),
         OnFields::Keys => one(keys_rule(alloc, args)),
         OnFields::Values => one(values_rule(alloc, args)),
+        OnFields::Object => one(object_rule(alloc, args)),
     }
 }
 
@@ -164,7 +176,7 @@ pub fn apply<V: TableView, F: Fn(usize, &[Datum]) -> Result<Value, Fault>>(
     match kind {
         Kind::Scalar(op) => by_scalar(alloc, op, args, opts, world, call),
         Kind::OnArray(op) => by_array(alloc, op, args, opts),
-        Kind::OnFields(op) => by_fields(alloc, op, args, opts, world),
+        Kind::OnFields(op) => by_fields(alloc, op, args, opts, world, call),
         Kind::OnTable(op) => by_table(alloc, op, args, opts, world),
         Kind::OnSequence(op) => by_sequence(alloc, op, args, opts, world, call),
         Kind::OnPart(op) => by_part(alloc, op, args, opts, world),

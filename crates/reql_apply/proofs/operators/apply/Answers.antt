@@ -16,7 +16,7 @@ pub returns-in-OnPart : goal.returns-in-OnPart
 returns-in-OnPart g c calls h = rw c.in-OnPart.is (c.by_part.ensures calls)
 
 pub returns-in-OnFields : goal.returns-in-OnFields
-returns-in-OnFields g c calls h = rw c.in-OnFields.is (c.by_fields.ensures calls)
+returns-in-OnFields g c calls h = rw c.in-OnFields.is (c.by_fields.ensures calls h)
 
 pub returns-in-OnTable : goal.returns-in-OnTable
 returns-in-OnTable g c calls h = rw c.in-OnTable.is (c.by_table.ensures calls)
