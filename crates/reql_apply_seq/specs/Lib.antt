@@ -1,2 +1,4 @@
 pub mod Sources
 pub mod Passing
+pub mod Filtering
+pub mod Indexes

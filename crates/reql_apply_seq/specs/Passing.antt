@@ -3,6 +3,8 @@ use Rattle.std.specs.Prelude.{ℕ, ◌+◌, length, List, Bool, ◌||◌, ◌&&�
 use Rattle.reql_datum.specs.Answer.{Answer, ◌>>=◌}
 use Rattle.reql_datum.specs.Plain.{Plain}
 use Rattle.reql_rules.specs.Places.{counted_as}
+use Rattle.reql_value.specs.Meant.{Meant, Given, meant_of}
+use Rattle.reql_value.specs.Sequenced.{like}
 
 abbrev pub counting : Answer (List Plain) → Answer Plain
 counting a = a >>= λ es. Ok (counted_as (length es))
@@ -15,3 +17,7 @@ or_on b a = a >>= λ c. Ok (b || c)
 
 abbrev pub and_on : Bool → Answer Bool → Answer Bool
 and_on b a = a >>= λ c. Ok (b && c)
+
+-- an answer as a sequence of the first argument's kind
+abbrev pub like_any : Given → Answer (List Plain) → Answer Meant
+like_any g a = a >>= λ ds. Ok (like (meant_of g) ds)

@@ -4,8 +4,12 @@
 #![tactic(auto)]
 
 mod counting;
+mod distinguishing;
+mod filtering;
+mod indexed;
 mod joining;
 mod mapping;
+mod offsets;
 mod parts;
 mod passing;
 mod places;
@@ -13,8 +17,11 @@ mod ranging;
 mod source;
 
 pub use counting::count;
+pub use distinguishing::distinct;
+pub use filtering::filter;
 pub use joining::union;
 pub use mapping::{map, reduce};
+pub use offsets::offsets_of;
 pub use parts::{is_empty, limit, skip};
 pub use passing::contains;
 pub use ranging::range;

@@ -1,0 +1,10 @@
+use Rattle.std.proofs.Common.{[], ◌∷◌}
+use Rattle.reql_value.specs.Sequences.{offsets_of}
+use Rattle.reql_operand.specs.Seen.{shown}
+use Rattle.reql_operand.specs.Tables.{seen}
+use Rattle.reql_apply_seq.proofs.offsets.offsets_in.Goals as goal
+
+pub returns : goal.returns
+returns g c = λ calls h opts.
+    let w = seen g.V.TableView.documents g.V.TableView.indexes g.V.TableView.entries c.args.world.now in
+    c.liked.ensures w (offsets_of w calls (shown w c.args.source.now ∷ shown w c.args.f.now ∷ []) opts) (c.all_places-places.ensures calls h opts)
