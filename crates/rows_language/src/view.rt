@@ -1,134 +1,151 @@
 // A table as it is read, over plain lists.
-use crate::listed::{ListedDocument, ListedEntry, ListedIndex, ListedTable};
 use reql_datum::{Datum, Items, Memory, Name};
 use reql_term::{Body, Bound, IndexDef, Range, TableView, Term, ViewFault};
+use rows_reader::{arguments, list, number, shown, text, word};
+use rows_table::{ListedDocument, ListedEntry, ListedIndex, ListedTable};
 use std::alloc::Global;
-use std::test::Fail;
 
-fn text(alloc: Global, text: &str) -> Result<Datum, Memory> {
-    Ok(Datum::Text(Name::of(alloc, text)?))
-}
-
-fn document(alloc: Global, key: &str) -> Result<ListedDocument, Memory> {
-    Ok(ListedDocument {
-        key: text(alloc, key)?,
-        document: text(alloc, key)?,
+// A document that is its own key.
+fn document(key: &Datum) -> Option<ListedDocument> {
+    Some(ListedDocument {
+        key: key.copy().ok()?,
+        document: key.copy().ok()?,
     })
 }
 
-fn entry(alloc: Global, value: &str, key: &str) -> Result<ListedEntry, Memory> {
-    Ok(ListedEntry {
-        value: text(alloc, value)?,
-        of: document(alloc, key)?,
-    })
-}
-
-// The documents a, b and c, and an index in which c has the value 1, and a and b have 2.
-fn table(alloc: Global, keys: [&str; 3]) -> Result<Option<ListedTable>, Memory> {
+fn documents(alloc: Global, keys: &Items) -> Option<Vec<ListedDocument>> {
     let mut documents = Vec::new(alloc);
-    for key in keys {
-        documents.push(document(alloc, key)?)?;
+    for key in keys.as_slice() {
+        documents.push(document(key)?).ok()?;
     }
+    Some(documents)
+}
+
+// Entries [value, key].
+fn entries(alloc: Global, pairs: &Items) -> Option<Vec<ListedEntry>> {
     let mut entries = Vec::new(alloc);
-    entries.push(entry(alloc, "1", "c")?)?;
-    entries.push(entry(alloc, "2", "a")?)?;
-    entries.push(entry(alloc, "2", "b")?)?;
+    for pair in pairs.as_slice() {
+        let pair = list(pair)?;
+        let value = pair.at(0)?.copy().ok()?;
+        let of = document(pair.at(1)?)?;
+        entries.push(ListedEntry { value, of }).ok()?;
+    }
+    Some(entries)
+}
+
+// The table [keys, entries], whose one index is `by`.
+fn table(alloc: Global, parts: &Items) -> Option<Option<ListedTable>> {
+    let documents = documents(alloc, list(parts.at(0)?)?)?;
+    let entries = entries(alloc, list(parts.at(1)?)?)?;
     let def = IndexDef {
-        name: Name::of(alloc, "by")?,
-        func: Body::new(alloc, Term::Row)?,
+        name: Name::of(alloc, "by").ok()?,
+        func: Body::new(alloc, Term::Row).ok()?,
         multi: false,
     };
     let mut indexes = Vec::new(alloc);
-    indexes.push(ListedIndex { def, entries })?;
-    Ok(ListedTable::of(alloc, documents, indexes))
+    indexes.push(ListedIndex { def, entries }).ok()?;
+    Some(ListedTable::of(alloc, documents, indexes))
+}
+
+fn index_at(args: &Items) -> Option<Option<Name>> {
+    match args.at(1)? {
+        Datum::Text(name) => Some(Some(name.copy().ok()?)),
+        _ => Some(None),
+    }
 }
 
 // From one value, which is left out, up to another.
-fn range(
-    alloc: Global,
-    index: Option<&str>,
-    low: &str,
-    high: &str,
-    down: bool,
-) -> Result<Range, Memory> {
-    let index = match index {
-        Some(name) => Some(Name::of(alloc, name)?),
-        None => None,
-    };
-    Ok(Range {
-        index,
+fn range(args: &Items) -> Option<Range> {
+    Some(Range {
+        index: index_at(args)?,
         low: Bound {
-            value: text(alloc, low)?,
+            value: args.at(2)?.copy().ok()?,
             is_open: true,
         },
         high: Bound {
-            value: text(alloc, high)?,
+            value: args.at(3)?.copy().ok()?,
             is_open: false,
         },
-        down,
+        down: matches!(args.at(4)?, Datum::Bool(true)),
     })
 }
 
-fn are(items: &Items, texts: &str) -> bool {
-    let mut place: usize = 0;
-    for text in texts.split(' ') {
-        match items.at(place) {
-            Some(Datum::Text(name)) => {
-                if name.as_str() != text {
-                    return false;
-                }
-            }
-            _ => return false,
-        }
-        place = place.saturating_add(1);
+fn found(alloc: Global, answer: Result<Items, ViewFault>) -> Option<String> {
+    match answer {
+        Ok(items) => shown(alloc, &Datum::List(items)),
+        Err(ViewFault::IndexMissing) => word(alloc, "IndexMissing"),
+        Err(ViewFault::Memory) => None,
     }
-    items.len() == place
 }
 
-fn reads_ranges<V: TableView>(alloc: Global, view: &V) -> Result<bool, ViewFault> {
-    let by = range(alloc, Some("by"), "0", "2", false)?;
-    let back = range(alloc, Some("by"), "1", "2", true)?;
-    let keys = range(alloc, None, "a", "c", false)?;
-    let entries = view.entries_between(alloc, &by)?;
-    let all = are(&view.between(alloc, &by)?, "c a b") && are(&view.between(alloc, &back)?, "b a");
-    let parts = are(&view.part(alloc, &by, 1, 1)?, "a")
-        && are(&view.part(alloc, &back, 1, 9)?, "a");
-    let counts = view.count_between(&by)? == 3 && view.count_between(&keys)? == 2;
-    let beside = are(&entries.values, "1 2 2") && are(&entries.documents, "c a b");
-    Ok(all && parts && counts && beside && are(&view.between(alloc, &keys)?, "b c"))
+fn entries_told<V: TableView>(alloc: Global, view: &V, range: &Range) -> Option<String> {
+    let entries = view.entries_between(alloc, range).ok()?;
+    let values = shown(alloc, &Datum::List(entries.values))?;
+    let documents = shown(alloc, &Datum::List(entries.documents))?;
+    format!(in alloc; "{values} of {documents}").ok()
 }
 
-fn reads_keys<V: TableView>(alloc: Global, view: &V) -> Result<bool, ViewFault> {
-    let by = Name::of(alloc, "by")?;
-    let mut keys = Items::new(alloc);
-    for value in ["2", "3", "2"] {
-        if let Err(_) = keys.push(text(alloc, value)?) {
-            return Err(ViewFault::Memory);
+fn place_at(args: &Items, place: usize) -> Option<usize> {
+    usize::try_from(number(args.at(place)?)?).ok()
+}
+
+fn ranged<V: TableView>(alloc: Global, call: &str, view: &V, args: &Items) -> Option<String> {
+    let range = range(args)?;
+    match call {
+        "between" => found(alloc, view.between(alloc, &range)),
+        "part" => {
+            let (from, most) = (place_at(args, 5)?, place_at(args, 6)?);
+            found(alloc, view.part(alloc, &range, from, most))
         }
+        "count_between" => format!(in alloc; "{}", view.count_between(&range).ok()?).ok(),
+        "entries_between" => entries_told(alloc, view, &range),
+        _ => None,
     }
-    let found = are(&view.get_all(alloc, Some(&by), &keys)?, "a b a b");
-    let all = are(&view.scan(alloc)?, "a b c") && are(&view.names(alloc)?, "by");
-    let has = view.index(&by).is_some() && view.get(&text(alloc, "b")?).is_some();
-    Ok(found && all && has && view.get(&text(alloc, "d")?).is_none())
 }
 
-fn misses<V: TableView>(alloc: Global, view: &V) -> Result<bool, Memory> {
-    let none = range(alloc, Some("none"), "0", "2", false)?;
-    Ok(matches!(view.between(alloc, &none), Err(ViewFault::IndexMissing)))
+fn known(alloc: Global, items: Result<Items, Memory>) -> Option<String> {
+    shown(alloc, &Datum::List(items.ok()?))
 }
 
-fn reads(alloc: Global) -> Result<bool, ViewFault> {
-    let unordered = table(alloc, ["b", "a", "c"])?;
-    let lacks_one = table(alloc, ["a", "b", "d"])?;
-    let Some(view) = table(alloc, ["a", "b", "c"])? else {
-        return Ok(false);
+fn is_there(alloc: Global, is_there: bool) -> Option<String> {
+    word(alloc, if is_there { "there" } else { "none" })
+}
+
+fn keyed<V: TableView>(alloc: Global, call: &str, view: &V, args: &Items) -> Option<String> {
+    match call {
+        "scan" => known(alloc, view.scan(alloc)),
+        "names" => known(alloc, view.names(alloc)),
+        "has_document" => is_there(alloc, view.get(args.at(1)?).is_some()),
+        "has_index" => {
+            let name = Name::of(alloc, text(args.at(1)?)?).ok()?;
+            is_there(alloc, view.index(&name).is_some())
+        }
+        "get_all" => {
+            let index = index_at(args)?;
+            found(
+                alloc,
+                view.get_all(alloc, index.as_ref(), list(args.at(2)?)?),
+            )
+        }
+        _ => None,
+    }
+}
+
+/// Of a table [keys, entries [value, key] of an index `by`], in which each document is its own key:
+/// `table`, whether it is one. Of a range from a value of an index, or of the keys where that is null,
+/// which is left out, up to another, `down` where the last is true: `between`, `part` from a place on,
+/// so many, `count_between`, `entries_between`. `scan`, `names` of indexes, `has_document`, `has_index`,
+/// `get_all` of an index by values.
+pub(crate) fn view_call(alloc: Global, call: &str, source: &str) -> Option<String> {
+    let args = arguments(alloc, source)?;
+    let Some(view) = table(alloc, list(args.at(0)?)?)? else {
+        return word(alloc, "no table");
     };
-    let all = reads_ranges(alloc, &view)? && reads_keys(alloc, &view)? && misses(alloc, &view)?;
-    Ok(all && unordered.is_none() && lacks_one.is_none())
-}
-
-#[test]
-fn a_table_is_read_over_plain_lists(rt: HostRuntime) -> Result<(), Fail> {
-    assert!(rt; matches!(reads(rt.alloc()), Ok(true)));
-    Ok(())
+    if call == "table" {
+        return word(alloc, "a table");
+    }
+    if let Some(told) = keyed(alloc, call, &view, &args) {
+        return Some(told);
+    }
+    ranged(alloc, call, &view, &args)
 }
