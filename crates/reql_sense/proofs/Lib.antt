@@ -1,0 +1,4 @@
+pub mod Frames
+pub mod Objects
+pub mod Senses
+pub mod Terms
