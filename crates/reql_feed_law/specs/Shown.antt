@@ -5,6 +5,7 @@ use Rattle.std.specs.Option.{unwrap_or}
 use Rattle.reql_datum.specs.Plain.{Plain, null, number, object, text, members}
 use Rattle.reql_datum.specs.Members.{find}
 use Rattle.reql_rules.specs.Lists.{Bytes, object_of}
+use Rattle.reql_rules.specs.Places.{counted_as}
 use Rattle.reql_feed_law.specs.Items.{Difference, present}
 
 -- what an item shows beside what left and what came: the places in a limit feed's list, and the type of the change
@@ -39,9 +40,9 @@ item_members s d =
 abbrev pub shown : Shows → Difference → Plain
 shown s d = object_of (item_members s d)
 
--- the opening item of an element of the value, in a limit feed with its place
+-- the opening item of an element of the value, in a limit feed with its place, above the range of numbers the greatest
 abbrev pub opening : Shows → ℕ → Plain → Plain
-opening s k v = object_of (cond s.offsets ((codes "new_offset", number (pos k)) ∷ (codes "new_val", v) ∷ []) ((codes "new_val", v) ∷ []) ++ type_member s.types (codes "initial"))
+opening s k v = object_of (cond s.offsets ((codes "new_offset", counted_as k) ∷ (codes "new_val", v) ∷ []) ((codes "new_val", v) ∷ []) ++ type_member s.types (codes "initial"))
 
 -- what a feed tells of its own state, and of items that were dropped
 abbrev pub state_item : Shows → Bytes → Plain
