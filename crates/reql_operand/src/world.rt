@@ -10,6 +10,7 @@ use reql_term::TableView;
 use std::alloc::Global;
 
 /// A table as it is read, with its slot and the names that it goes by.
+#[derive(Drop)]
 pub struct Viewed<V> {
     pub slot: u32,
     pub db: Name,
@@ -20,12 +21,14 @@ pub struct Viewed<V> {
 }
 
 /// A database, with its number.
+#[derive(Drop)]
 pub struct Database {
     pub name: Name,
     pub number: u64,
 }
 
 /// The tables and databases that a request reads, and its limit of arrays.
+#[derive(Drop)]
 pub struct World<V> {
     pub tables: Vec<Viewed<V>>,
     pub databases: Vec<Database>,
