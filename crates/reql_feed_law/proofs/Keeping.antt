@@ -29,7 +29,7 @@ either true b h = inl refl
 either false b h = inr h
 
 mutual
-  names_free : (scope : List (List ℕ)) (f : Form) → is_free scope f ≡ true → Names NoSlot scope f
+  pub names_free : (scope : List (List ℕ)) (f : Form) → is_free scope f ≡ true → Names NoSlot scope f
   names_free scope (literal d) h = tt
   names_free scope (several fs) h = all_free scope fs h
   names_free scope (keyed ms) h = named_free scope ms h
@@ -62,7 +62,7 @@ on_table_is n no_forms h = absurd (cc (h))
 on_table_is n (form f fs) h = let p = both (is_table n f) (are_free [] fs) h in (table_is n f p.0, all_free [] fs p.1)
 
 mutual
-  shape_is : (n : ℕ) (f : Form) → is_shape n f ≡ true → IsShape n f
+  pub shape_is : (n : ℕ) (f : Form) → is_shape n f ≡ true → IsShape n f
   shape_is n (slot k) h = h
   shape_is n (operation o fs ms) h =
       let p = both (fields_free [] ms) ((is_stage o && on_shape n fs) || (is_part o && on_table n fs)) h in

@@ -65,11 +65,11 @@ follow_indexes i within down off n docs cs up all real = follow_moves (selected 
 pub follow_keys : LimitsFollowKeys
 follow_keys within down n docs cs up all real = follow_moves (selected_by_key within down) (keys_move within down) n docs cs up all real
 
-filter_all : (es : List Entry) → filter (lies_in whole) es ≡ es
+pub filter_all : (es : List Entry) → filter (lies_in whole) es ≡ es
 filter_all [] = refl
 filter_all (e ∷ es) = ap (λ t. e ∷ t) (filter_all es)
 
-documents_take : (n : ℕ) (es : List Entry) → take n (documents_in es) ≡ documents_in (take n es)
+pub documents_take : (n : ℕ) (es : List Entry) → take n (documents_in es) ≡ documents_in (take n es)
 documents_take zero es = refl
 documents_take (suc n) [] = refl
 documents_take (suc n) (e ∷ es) = ap (λ t. e.1.1 ∷ t) (documents_take n es)

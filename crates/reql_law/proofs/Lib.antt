@@ -5,3 +5,10 @@ pub mod Stays
 pub mod Worked
 pub mod Records
 pub mod Reading
+pub mod Closed
+pub mod PointTerms
+pub mod Sources
+pub mod Orders
+pub mod LimitTerms
+pub mod SameTables
+pub mod RangeTerms

@@ -1,34 +1,29 @@
 -- Requests as they are planned are read for what they mean.
-use Rattle.std.proofs.Common.{◌≡◌, ℕ, nat_eq, List, [], ◌∷◌, ◌++◌, Option, Some, None, Ok, Bool, true, false, ◌&&◌, ◌||◌, if◌then◌else◌, refl, sym, ap, ◌∙◌, ◌⊎◌, inl, inr, arith}
+use Rattle.std.proofs.Common.{◌≡◌, ℕ, nat_eq, List, [], ◌∷◌, ◌++◌, Ok, Bool, true, false, ◌&&◌, ◌||◌, refl, ap, ◌⊎◌, inl, inr, arith}
 use Rattle.std.proofs.lemmas.Bool.{eqb-true}
 use Rattle.std.proofs.lemmas.Cmp.{tied_itself, nat_list_cmp_total}
 use Rattle.std.specs.Ordering.{is_eq}
-use Rattle.reql_datum.specs.Answer.{Answer}
-use Rattle.reql_datum.specs.Members.{find}
-use Rattle.reql_datum.specs.Plain.{Plain}
 use Rattle.reql_rules.specs.Lists.{Bytes}
-use Rattle.reql_rules.specs.Types.{same_text, is_null}
+use Rattle.reql_rules.specs.Types.{same_text}
 use Rattle.reql_term.specs.Form.{Form, literal, several, keyed, variable, implicit, function, slot, operation, Forms, no_forms, form}
-use Rattle.reql_term.specs.Views.{Index}
 use Rattle.reql_value.specs.Shapes.{is_stage, is_part}
 use Rattle.reql_write_law.specs.Selecting.{slots, slots_of, slots_named}
-use Rattle.reql_feed_law.specs.Kept.{Kept, by_key, by_shape, by_index, by_primary, is_shape, on_shape, is_table, on_table, are_free, fields_free}
+use Rattle.reql_feed_law.specs.Kept.{by_shape, is_shape, on_shape, is_table, on_table, are_free, fields_free}
 use Rattle.reql_feed_law.specs.Watched.{Part, whole, between, AreBounds, first_term, part_term}
-use Rattle.reql_law.specs.Followed.{followed, shape_index, first_slot, part_of, first_by, first_over, order_in, is_asked, kept_order, Ordered}
-use Rattle.reql_law.specs.Indexes.{Indexes}
+use Rattle.reql_law.specs.Followed.{first_slot, part_of, first_by, Ordered}
 use Rattle.reql_law.specs.Reading.{PointsAreRead, RangesAreRead, NamedRangesAreRead, LimitsAreRead, LimitsByKeyAreRead}
 
-itself : (n : ℕ) → nat_eq n n ≡ true
+pub itself : (n : ℕ) → nat_eq n n ≡ true
 itself n = grind arith
 
-same_name : (name : Bytes) → same_text name name ≡ true
+pub same_name : (name : Bytes) → same_text name name ≡ true
 same_name name = ap is_eq (tied_itself nat_list_cmp_total name)
 
 pub points : PointsAreRead
 points s indexes n key h = rw h refl
 
 -- ---- the one slot of a shape stands first
-both : (a b : Bool) → a && b ≡ true → (a ≡ true) × (b ≡ true)
+pub both : (a b : Bool) → a && b ≡ true → (a ≡ true) × (b ≡ true)
 both true b h = (refl, h)
 both false b h = absurd (cc (h))
 
@@ -36,10 +31,10 @@ either : (a b : Bool) → a || b ≡ true → (a ≡ true) ⊎ (b ≡ true)
 either true b h = inl refl
 either false b h = inr h
 
-abbrev Starts : ℕ → List ℕ → Type 0
+abbrev pub Starts : ℕ → List ℕ → Type 0
 Starts n ns = (rest : List ℕ) × (ns ≡ n ∷ rest)
 
-starts_on : (n : ℕ) (xs ys : List ℕ) → Starts n xs → Starts n (xs ++ ys)
+pub starts_on : (n : ℕ) (xs ys : List ℕ) → Starts n xs → Starts n (xs ++ ys)
 starts_on n xs ys s = (s.0 ++ ys, ap (λ z. z ++ ys) s.1)
 
 table_starts : (n : ℕ) (f : Form) → is_table n f ≡ true → Starts n (slots f)
@@ -76,7 +71,7 @@ mutual
   stage_starts n no_forms h = absurd (cc (h))
   stage_starts n (form f fs) h = starts_on n (slots f) (slots_of fs) (shape_starts n f (both (is_shape n f) (are_free [] fs) h).0)
 
-first_of : (n : ℕ) (ns : List ℕ) → Starts n ns → first_slot ns ≡ n
+pub first_of : (n : ℕ) (ns : List ℕ) → Starts n ns → first_slot ns ≡ n
 first_of n ns s = ap first_slot s.1
 
 pub ranges : RangesAreRead

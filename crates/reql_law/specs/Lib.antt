@@ -8,3 +8,4 @@ pub mod Laws
 pub mod Worked
 pub mod Engines
 pub mod Reading
+pub mod Terms

@@ -1,5 +1,6 @@
 // Laws of the table machine, each a clause of a function that does nothing.
 ghost use Rattle.reql_law.specs.Reading.{PointsAreRead, RangesAreRead, NamedRangesAreRead, LimitsAreRead, LimitsByKeyAreRead};
+ghost use Rattle.reql_law.specs.Terms.{PointsShowTheirTerms, RangesShowTheirTerms, LimitsShowTheirTerms};
 ghost use Rattle.reql_law.specs.Laws.{RefusedStays, RecordedFit, DocsAtStamp, StampCounts, LaterDocs, DocsStay, TablesStay, WritesLand, GoodStay, IndexesStay, MakingStays, KindsFold, FeedsFold};
 
 /// A command that adds no entry leaves the table as it was, and one that does adds one to the place;
@@ -42,4 +43,14 @@ pub fn requests_are_read()
     ensures named_ranges { NamedRangesAreRead }
     ensures limits { LimitsAreRead }
     ensures limits_by_key { LimitsByKeyAreRead }
+{}
+
+/// Every request of a feed that is accepted on a table shows what its term gives there, however the term
+/// is spelled: GET of any closed key for a point feed; any shape for a range feed, on the good documents;
+/// and for a limit feed LIMIT of ORDER_BY by an index or by primary key, named alone or in ASC or DESC,
+/// over the table or over BETWEEN of any closed bounds with any of its options.
+pub fn feeds_show_their_terms()
+    ensures points { PointsShowTheirTerms }
+    ensures ranges { RangesShowTheirTerms }
+    ensures limits { LimitsShowTheirTerms }
 {}

@@ -11,7 +11,9 @@ mod rows;
 
 pub use command::{Cmd, Entry, FeedSpec, Order};
 pub use engine::{Keeping, Kept, MachineState, TableEngine};
-pub use laws::{feed_kinds_fold, feeds_of_histories_fold, requests_are_read, table_laws};
+pub use laws::{
+    feed_kinds_fold, feeds_of_histories_fold, feeds_show_their_terms, requests_are_read, table_laws,
+};
 pub use limits::Limits;
 pub use reply::{Heard, Reply, Said, Saved, Told};
 pub use reql_datum::Point;
