@@ -10,5 +10,6 @@ pub mod Owed
 pub mod Putting
 pub mod Moving
 pub mod Worked
+pub mod Sources
 pub mod Watched
 pub mod Keeping

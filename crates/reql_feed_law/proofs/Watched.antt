@@ -1,18 +1,24 @@
 -- The terms of feeds, evaluated.
-use Rattle.std.proofs.Common.{◌≡◌, ℕ, zero, suc, nat_eq, List, [], ◌∷◌, take, Option, Some, None, Ok, Bool, true, false, cond, Ordering, Less, Equal, Greater, refl, sym, ap, arith, ◌∙◌}
+use Rattle.std.proofs.Common.{◌≡◌, ℕ, zero, suc, nat_eq, List, [], ◌∷◌, take, Option, Some, None, Ok, Bool, true, false, cond, Ordering, Less, Equal, Greater, refl, sym, ap, arith, ◌∙◌, subst}
 use Rattle.std.specs.List.{filter}
 use Rattle.std.specs.Ordering.{is_eq, match_ordering}
-use Rattle.std.proofs.lemmas.Cmp.{tied_itself}
-use Rattle.std.proofs.lemmas.Cmp.{nat_list_cmp_total}
-use Rattle.reql_datum.specs.Plain.{Plain}
+use Rattle.std.specs.Prelude.{codes, not}
+use Rattle.reql_datum.specs.Answer.{◌>>=◌}
+use Rattle.reql_datum.specs.Plain.{Plain, text}
 use Rattle.reql_datum.specs.Order.{order}
 use Rattle.reql_memory.specs.Sorted.{AreRisingBy, put_by, without_by}
 use Rattle.reql_rules.specs.Lists.{Bytes}
-use Rattle.reql_rules.specs.Types.{same_text, is_null}
+use Rattle.reql_rules.specs.Types.{is_null}
+use Rattle.reql_term.specs.Form.{literal, slot, NamedForms, no_named, named}
 use Rattle.reql_term.specs.Views.{Document, Entry, documents_in, directed, primary}
 use Rattle.reql_value.specs.Index.{index_list}
-use Rattle.reql_value.specs.Shapes.{with_documents, rows_over}
-use Rattle.reql_value.specs.World.{World, View, entries_named}
+use Rattle.reql_value.specs.Meaning.{settled, sense, named_senses}
+use Rattle.reql_value.specs.Meant.{one, selection, slice_in_order, given, directed as with_direction, Options}
+use Rattle.reql_value.specs.Sense as senses
+use Rattle.reql_value.specs.Sense.{argument, option}
+use Rattle.reql_value.specs.Shapes.{over, with_documents, rows_over}
+use Rattle.reql_value.specs.Wanted.{to_sequence, left_is_open, right_is_open}
+use Rattle.reql_value.specs.World.{World, View, view_at, entries_named}
 use Rattle.reql_value.proofs.Shaped.{by_document}
 use Rattle.reql_feed_law.specs.Value.{Change, Selection, changed, selected}
 use Rattle.reql_feed_law.specs.Moving.{AreNoNulls, IsNoNull, BringNoNulls, MovesOne, selected_by_key}
@@ -20,7 +26,8 @@ use Rattle.reql_feed_law.specs.Feeds.{first_of}
 use Rattle.reql_feed_law.specs.Folds.{AllFollow}
 use Rattle.reql_feed_law.proofs.Histories.{rising_changed}
 use Rattle.reql_feed_law.proofs.Moving.{indexes_move, keys_move}
-use Rattle.reql_feed_law.specs.Watched.{Part, whole, between, lies_in, AreBounds, first_term, PointsAreGets, RangesFollowShapes, LimitsFollowIndexes, LimitsFollowKeys, LimitsAreFirstByIndex, LimitsAreFirstByKey}
+use Rattle.reql_feed_law.proofs.Sources.{Source, table_source, bounds_of, between_given, slice_source, order_of_meant, limit_given}
+use Rattle.reql_feed_law.specs.Watched.{Part, whole, between, lies_in, AreBounds, bound_name, part_term, index_term, ordered_term, first_term, PointsAreGets, RangesFollowShapes, LimitsFollowIndexes, LimitsFollowKeys, LimitsAreFirstByIndex, LimitsAreFirstByKey}
 
 itself : (n : ℕ) → nat_eq n n ≡ true
 itself n = grind arith
@@ -74,36 +81,54 @@ documents_take zero es = refl
 documents_take (suc n) [] = refl
 documents_take (suc n) (e ∷ es) = ap (λ t. e.1.1 ∷ t) (documents_take n es)
 
--- the value of the term, where these are the entries of the name
-abbrev IsFirst : World → ℕ → View → Bytes → List Entry → Part → Bool → ℕ → List Document → Type 0
-IsFirst base n t name es part down count docs = rows_over base n t (first_term n name part down count) docs ≡ Ok (take count (documents_in (directed down (filter (lies_in part) es))))
+-- ---- the term of a limit feed: what its source gives, then its order, where these are the entries of the name
+abbrev bound_of : Bool → Plain
+bound_of true = text (codes "open")
+bound_of false = text (codes "closed")
 
-same_name : (name : Bytes) → same_text name name ≡ true
-same_name name = ap is_eq (tied_itself nat_list_cmp_total name)
+bound_gives : (b : Bool) (w : World) → option (sense (bound_name b)) w [] ≡ Ok (given (one (bound_of b)))
+bound_gives true w = refl
+bound_gives false w = refl
 
-first_whole : (base : World) (n : ℕ) (t : View) (name : Bytes) (es : List Entry) (down : Bool) (count : ℕ) (docs : List Document) → entries_named (with_documents t docs) name ≡ Ok es
-    → rows_over base n t (first_term n name whole down count) docs ≡ Ok (take count (documents_in (directed down es)))
-first_whole base n t name es true count docs is = rw (itself n) (rw (itself n) (rw is refl))
-first_whole base n t name es false count docs is = rw (itself n) (rw (itself n) (rw is refl))
+abbrev between_names : Bytes → Bool → Bool → NamedForms
+between_names name bottom_open top_open = named (codes "index") (literal (text name)) (named (codes "left_bound") (bound_name bottom_open) (named (codes "right_bound") (bound_name top_open) no_named))
 
-first_between : (base : World) (n : ℕ) (t : View) (name : Bytes) (es : List Entry) (bottom : Plain) (bottom_open : Bool) (top : Plain) (top_open down : Bool) (count : ℕ) (docs : List Document) → entries_named (with_documents t docs) name ≡ Ok es
-    → is_null bottom ≡ false → is_null top ≡ false → IsFirst base n t name es (between bottom bottom_open top top_open) down count docs
-first_between base n t name es bottom true top true true count docs is from to = rw (itself n) (rw (itself n) (rw from (rw to (rw is (rw (same_name name) (rw (itself n) (rw is refl)))))))
-first_between base n t name es bottom true top true false count docs is from to = rw (itself n) (rw (itself n) (rw from (rw to (rw is (rw (same_name name) (rw (itself n) (rw is refl)))))))
-first_between base n t name es bottom true top false true count docs is from to = rw (itself n) (rw (itself n) (rw from (rw to (rw is (rw (same_name name) (rw (itself n) (rw is refl)))))))
-first_between base n t name es bottom true top false false count docs is from to = rw (itself n) (rw (itself n) (rw from (rw to (rw is (rw (same_name name) (rw (itself n) (rw is refl)))))))
-first_between base n t name es bottom false top true true count docs is from to = rw (itself n) (rw (itself n) (rw from (rw to (rw is (rw (same_name name) (rw (itself n) (rw is refl)))))))
-first_between base n t name es bottom false top true false count docs is from to = rw (itself n) (rw (itself n) (rw from (rw to (rw is (rw (same_name name) (rw (itself n) (rw is refl)))))))
-first_between base n t name es bottom false top false true count docs is from to = rw (itself n) (rw (itself n) (rw from (rw to (rw is (rw (same_name name) (rw (itself n) (rw is refl)))))))
-first_between base n t name es bottom false top false false count docs is from to = rw (itself n) (rw (itself n) (rw from (rw to (rw is (rw (same_name name) (rw (itself n) (rw is refl)))))))
+abbrev between_options : Bytes → Bool → Bool → Options
+between_options name bottom_open top_open = (codes "index", given (one (text name))) ∷ (codes "left_bound", given (one (bound_of bottom_open))) ∷ (codes "right_bound", given (one (bound_of top_open))) ∷ []
+
+options_give : (name : Bytes) (bottom_open top_open : Bool) (w : World) → senses.options option (named_senses (between_names name bottom_open top_open)) w [] ≡ Ok (between_options name bottom_open top_open)
+options_give name bottom_open top_open w = rw (bound_gives bottom_open w) (rw (bound_gives top_open w) refl)
+
+left_is : (name : Bytes) (bottom_open top_open : Bool) → left_is_open (between_options name bottom_open top_open) ≡ Ok bottom_open
+left_is name true top_open = refl
+left_is name false top_open = refl
+
+right_is : (name : Bytes) (bottom_open top_open : Bool) → right_is_open (between_options name bottom_open top_open) ≡ Ok top_open
+right_is name bottom_open true = refl
+right_is name bottom_open false = refl
+
+part_source : (w : World) (n : ℕ) (v : View) (name : Bytes) (es : List Entry) (part : Part) → view_at w n ≡ Ok v → entries_named v name ≡ Ok es → AreBounds part → Source w n name (filter (lies_in part) es) (sense (part_term n name part))
+part_source w n v name es whole at is bounds = subst (λ xs. Source w n name xs (sense (slot n))) (sym (filter_all es)) (table_source w n v name es at is)
+part_source w n v name es (between bottom bottom_open top top_open) at is bounds =
+    let given_is = between_given w n v (sense (literal bottom)) (sense (literal top)) (named_senses (between_names name bottom_open top_open)) (one bottom) (one top) bottom top (between_options name bottom_open top_open) (Some name)
+    bottom_open top_open name es at refl refl (ap not bounds.0) refl refl (ap not bounds.1) (options_give name bottom_open top_open w) refl (left_is name bottom_open top_open) (right_is name bottom_open top_open) refl is in
+    slice_source w n v name es (bounds_of name bottom bottom_open top top_open) (sense (part_term n name (between bottom bottom_open top top_open))) refl at is (ap (λ a. a >>= λ m. Ok (given m)) given_is)
+
+part_ordered : (w : World) (n : ℕ) (name : Bytes) (es : List Entry) (part : Part) (down : Bool) → Source w n name es (sense (part_term n name part)) → argument 0 (sense (ordered_term n name part down)) w [] ≡ Ok (given (selection n slice_in_order (documents_in (directed down es))))
+part_ordered w n name es part true s =
+    ap (λ a. a >>= λ m. Ok (given m)) (order_of_meant w n (sense (part_term n name part)) (sense (index_term true name)) (with_direction true (given (one (text name)))) name true es s.meant s.rows s.is s.elements s.entries refl refl)
+part_ordered w n name es part false s =
+    ap (λ a. a >>= λ m. Ok (given m)) (order_of_meant w n (sense (part_term n name part)) (sense (index_term false name)) (given (one (text name))) name false es s.meant s.rows s.is s.elements s.entries refl refl)
 
 first_in : (base : World) (n : ℕ) (t : View) (name : Bytes) (es : List Entry) (part : Part) (down : Bool) (count : ℕ) (docs : List Document) → entries_named (with_documents t docs) name ≡ Ok es → AreBounds part
     → rows_over base n t (first_term n name part down count) docs ≡ Ok (documents_in (take count (directed down (filter (lies_in part) es))))
-first_in base n t name es whole down count docs is bounds =
-    first_whole base n t name es down count docs is ∙ ap (λ es. Ok es) (ap (λ fs. take count (documents_in (directed down fs))) (sym (filter_all es)) ∙ documents_take count (directed down (filter (lies_in whole) es)))
-first_in base n t name es (between bottom bottom_open top top_open) down count docs is bounds =
-    first_between base n t name es bottom bottom_open top top_open down count docs is bounds.0 bounds.1
-    ∙ ap (λ es. Ok es) (documents_take count (directed down (filter (lies_in (between bottom bottom_open top top_open)) es)))
+first_in base n t name es part down count docs is bounds =
+    let w : World = over base n t docs in
+    let within : List Entry = filter (lies_in part) es in
+    let at : view_at w n ≡ Ok (with_documents t docs) = rw (itself n) refl in
+    let ordered = part_ordered w n name within part down (part_source w n (with_documents t docs) name es part at is bounds) in
+    ap (λ a. settled a >>= to_sequence w) (limit_given w n (sense (ordered_term n name part down)) (documents_in (directed down within)) count ordered)
+    ∙ ap (λ vs. Ok vs) (documents_take count (directed down within))
 
 pub first_by_index : LimitsAreFirstByIndex
 first_by_index base n t name i part down count docs off found bounds =

@@ -7,7 +7,7 @@ pub mod Records
 pub mod Reading
 pub mod Closed
 pub mod PointTerms
-pub mod Sources
+pub mod Parts
 pub mod Orders
 pub mod LimitTerms
 pub mod SameTables

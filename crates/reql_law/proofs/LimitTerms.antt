@@ -19,6 +19,7 @@ use Rattle.reql_feed_law.specs.Value.{Selection, selected}
 use Rattle.reql_feed_law.specs.Watched.{lies_in}
 use Rattle.reql_feed_law.specs.declared.kind.FeedKind.TheVariants as kinds
 use Rattle.reql_feed_law.proofs.Watched.{documents_take}
+use Rattle.reql_feed_law.proofs.Sources.{same_name, same_names}
 use Rattle.reql_law.specs.Followed.{shape_by, or_nothing, first_shape, first_by, order_in, kept_order, is_asked, is_same, Ordered}
 use Rattle.reql_law.specs.Indexes.{Indexes}
 use Rattle.reql_law.specs.Table.{Held, is_limit, held_at, held_by, feed_of}
@@ -27,8 +28,7 @@ use Rattle.reql_law.specs.declared.command.FeedSpec.{FeedSpec}
 use Rattle.reql_law.proofs.Closed.{then_ok, if_ok, same_ok, like_bare}
 use Rattle.reql_law.proofs.Orders.{first_gives}
 use Rattle.reql_law.proofs.Reading as reading
-use Rattle.reql_law.proofs.Reading.{both, same_name}
-use Rattle.reql_law.proofs.Sources.{same_names}
+use Rattle.reql_law.proofs.Reading.{both}
 
 equal : (a b : ℕ) → nat_eq a b ≡ true → a ≡ b
 equal a b h = grind arith

@@ -11,19 +11,19 @@ use Rattle.reql_term.specs.Form.{Form, literal, operation, Forms, no_forms, form
 use Rattle.reql_term.specs.Views.{Entry, documents_in, directed}
 use Rattle.reql_term.specs.declared.op.Op.{Op}
 use Rattle.reql_term.specs.declared.op.Op.TheVariants as op
-use Rattle.reql_value.specs.Meaning.{value, settled, sense, sense_of}
-use Rattle.reql_value.specs.Meant.{Meant, one, stream, selection, row, table, grouped, database, callable, slice_in_order, some_rows, Given, given, directed as with_direction}
-use Rattle.reql_value.specs.Orders.{index_source, index_given, order_by}
-use Rattle.reql_value.specs.Sense as senses
-use Rattle.reql_value.specs.Sense.{Sense, plain, argument, index_option, sorting}
+use Rattle.reql_value.specs.Meaning.{value, settled, sense}
+use Rattle.reql_value.specs.Meant.{one, selection, slice_in_order, Given, given, directed as with_direction}
+use Rattle.reql_value.specs.Orders.{index_given}
+use Rattle.reql_value.specs.Sense.{argument, index_option}
 use Rattle.reql_value.specs.Wanted.{to_sequence}
 use Rattle.reql_value.specs.World.{World, View, view_at, entries_named}
 use Rattle.reql_write_law.specs.Selecting.{slots, slots_of, slots_named}
 use Rattle.reql_feed_law.specs.Watched.{Part, lies_in}
+use Rattle.reql_feed_law.proofs.Sources.{same_names, order_of_meant, limit_given}
 use Rattle.reql_law.specs.Followed.{arguments, options, literal_name, literal_count, is_limit, is_order, direction, only_name, order_index, order_over, order_of, first_over, first_by, part_of, Ordered}
 use Rattle.reql_law.proofs.Closed.{then_ok, if_ok, same_ok, IsLikeBare, name_is}
 use Rattle.reql_law.proofs.Reading.{Starts, starts_on}
-use Rattle.reql_law.proofs.Sources.{PartGives, part_gives, same_names}
+use Rattle.reql_law.proofs.Parts.{PartGives, part_gives}
 
 -- ---- the index of an order: a name, or ASC or DESC of one
 record Directed (f : Form) (name : Bytes) (down : Bool) : Type 0 where
@@ -55,18 +55,6 @@ order_index_is (literal d) i h =
     let n = then_ok (literal_name (literal d)) (λ name. Ok (name, false)) i h in
     subst (λ x. Directed (literal d) x.0 x.1) (same_ok (n.0, false) i n.2) (named_up (literal d) n.0 n.1)
 order_index_is f i h = absurd (cc (h))
-
--- ---- ORDER_BY of a source
-order_of_meant : (w : World) (n : ℕ) (s i : Sense) (g : Given) (name : Bytes) (down : Bool) (es : List Entry) (m : Meant) (rows : List Plain) → argument 0 s w [] ≡ Ok (given m) → to_sequence w m ≡ Ok rows → index_source w name m ≡ Ok (n, es)
-    → index_option i w [] ≡ Ok g → index_given (Some g) ≡ Ok (Some (name, down)) → sorting order_by (s ∷ []) ((codes "index", i) ∷ []) w [] ≡ Ok (selection n slice_in_order (documents_in (directed down es)))
-order_of_meant w n s i g name down es (table k) rows is elements entries option reads = rw is (rw option (rw elements (rw reads (rw entries refl))))
-order_of_meant w n s i g name down es (selection k kind ds) rows is elements entries option reads = rw is (rw option (rw reads (rw entries refl)))
-order_of_meant w n s i g name down es (one d) rows is elements entries option reads = absurd (cc (entries))
-order_of_meant w n s i g name down es (stream ds) rows is elements entries option reads = absurd (cc (entries))
-order_of_meant w n s i g name down es (row k v d) rows is elements entries option reads = absurd (cc (entries))
-order_of_meant w n s i g name down es (grouped gs) rows is elements entries option reads = absurd (cc (entries))
-order_of_meant w n s i g name down es (database db) rows is elements entries option reads = absurd (cc (entries))
-order_of_meant w n s i g name down es callable rows is elements entries option reads = absurd (cc (entries))
 
 abbrev in_order_of : Ordered → List Entry → List Entry
 in_order_of o es = directed o.down (filter (lies_in o.part) es)
@@ -131,10 +119,6 @@ count_in high count h = absurd (cc (h))
 count_is : (c : Form) (count : ℕ) → literal_count c ≡ Ok count → c ≡ literal (number (pos count))
 count_is (literal d) count h = ap literal (count_in d count h)
 count_is c count h = absurd (cc (h))
-
-limit_given : (w : World) (n : ℕ) (s : Sense) (ds : List Plain) (count : ℕ) → argument 0 s w [] ≡ Ok (given (selection n slice_in_order ds))
-    → senses.value (sense_of op.Limit (s ∷ sense (literal (number (pos count))) ∷ []) []) w [] ≡ Ok (selection n some_rows (take count ds))
-limit_given w n s ds count is = rw is refl
 
 -- the first of an order that a term is read for
 pub record FirstGives (key : Bytes) (o : Ordered) (count : ℕ) (f : Form) : Type 0 where

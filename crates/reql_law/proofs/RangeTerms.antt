@@ -22,6 +22,7 @@ use Rattle.reql_feed_law.specs.Kept.{Kept, by_shape, is_shape, watch_of}
 use Rattle.reql_feed_law.specs.Value.{is_good}
 use Rattle.reql_feed_law.specs.declared.kind.FeedKind.TheVariants as kinds
 use Rattle.reql_feed_law.proofs.Keeping.{shape_is}
+use Rattle.reql_feed_law.proofs.Sources.{same_name, same_names}
 use Rattle.reql_law.specs.Followed.{shape_by, or_nothing, shape_index, is_same}
 use Rattle.reql_law.specs.Indexes.{Indexes}
 use Rattle.reql_law.specs.Table.{Held, is_limit, held, held_at, held_by, feed_of}
@@ -29,9 +30,8 @@ use Rattle.reql_law.specs.Terms.{slot_of, HasTable, rows_in, RangesShowTheirTerm
 use Rattle.reql_law.specs.declared.command.FeedSpec.{FeedSpec}
 use Rattle.reql_law.proofs.Closed.{then_ok, if_ok}
 use Rattle.reql_law.proofs.LimitTerms.{same_some, else_is, with_index}
-use Rattle.reql_law.proofs.Reading.{same_name, itself}
+use Rattle.reql_law.proofs.Reading.{itself}
 use Rattle.reql_law.proofs.SameTables.{shape_rows_same}
-use Rattle.reql_law.proofs.Sources.{same_names}
 
 -- ---- the index of the request is the one that the table has
 kept_index : (spec : FeedSpec) (name : Bytes) (j : Index) (h : Held) (b : Bool) → (if b then None else Some (with_index spec name j)) ≡ Some h → find name h.indexes ≡ Some j

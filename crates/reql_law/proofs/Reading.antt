@@ -1,23 +1,18 @@
 -- Requests as they are planned are read for what they mean.
 use Rattle.std.proofs.Common.{◌≡◌, ℕ, nat_eq, List, [], ◌∷◌, ◌++◌, Ok, Bool, true, false, ◌&&◌, ◌||◌, refl, ap, ◌⊎◌, inl, inr, arith}
 use Rattle.std.proofs.lemmas.Bool.{eqb-true}
-use Rattle.std.proofs.lemmas.Cmp.{tied_itself, nat_list_cmp_total}
-use Rattle.std.specs.Ordering.{is_eq}
 use Rattle.reql_rules.specs.Lists.{Bytes}
-use Rattle.reql_rules.specs.Types.{same_text}
 use Rattle.reql_term.specs.Form.{Form, literal, several, keyed, variable, implicit, function, slot, operation, Forms, no_forms, form}
 use Rattle.reql_value.specs.Shapes.{is_stage, is_part}
 use Rattle.reql_write_law.specs.Selecting.{slots, slots_of, slots_named}
 use Rattle.reql_feed_law.specs.Kept.{by_shape, is_shape, on_shape, is_table, on_table, are_free, fields_free}
 use Rattle.reql_feed_law.specs.Watched.{Part, whole, between, AreBounds, first_term, part_term}
+use Rattle.reql_feed_law.proofs.Sources.{same_name}
 use Rattle.reql_law.specs.Followed.{first_slot, part_of, first_by, Ordered}
 use Rattle.reql_law.specs.Reading.{PointsAreRead, RangesAreRead, NamedRangesAreRead, LimitsAreRead, LimitsByKeyAreRead}
 
 pub itself : (n : ℕ) → nat_eq n n ≡ true
 itself n = grind arith
-
-pub same_name : (name : Bytes) → same_text name name ≡ true
-same_name name = ap is_eq (tied_itself nat_list_cmp_total name)
 
 pub points : PointsAreRead
 points s indexes n key h = rw h refl

@@ -4,74 +4,32 @@ use Rattle.std.specs.List.{filter, list_all}
 use Rattle.std.specs.Option.{unwrap_or}
 use Rattle.std.specs.Prelude.{codes}
 use Rattle.reql_datum.specs.Answer.{◌>>=◌}
-use Rattle.reql_datum.specs.Members.{text_order}
 use Rattle.reql_datum.specs.Plain.{Plain}
-use Rattle.reql_datum.proofs.Finds.{equal_texts}
-use Rattle.reql_memory.proofs.Finds.{is_equal}
 use Rattle.reql_rules.specs.Faults.{misplaced}
 use Rattle.reql_rules.specs.Lists.{Bytes}
 use Rattle.reql_rules.specs.Types.{same_text}
 use Rattle.reql_term.specs.Form.{Form, slot, operation, Forms, no_forms, form, NamedForms}
 use Rattle.reql_term.specs.Table.{takes}
-use Rattle.reql_term.specs.Views.{Entry, documents_in}
+use Rattle.reql_term.specs.Views.{Entry}
 use Rattle.reql_term.specs.declared.op.Op.{Op}
 use Rattle.reql_term.specs.declared.op.Op.TheVariants as op
 use Rattle.reql_value.specs.Meaning.{sense, named_senses, table_of, is_fit}
-use Rattle.reql_value.specs.Meant.{Meant, selection, table, Bounds, slice_between, bounded, given, Options}
-use Rattle.reql_value.specs.Orders.{index_source}
-use Rattle.reql_value.specs.Sense as senses
-use Rattle.reql_value.specs.Sense.{Sense, plain, argument, option, strict}
+use Rattle.reql_value.specs.Meant.{Meant, Bounds, given, Options}
+use Rattle.reql_value.specs.Sense.{Sense, plain, argument, strict}
 use Rattle.reql_value.specs.Tables.{key_if, may_bound, between_rule}
-use Rattle.reql_value.specs.Wanted.{to_datum, to_sequence, index_text, left_is_open, right_is_open}
-use Rattle.reql_value.specs.World.{World, View, view_at, documents_of, entries_named}
+use Rattle.reql_value.specs.Wanted.{left_is_open, right_is_open}
+use Rattle.reql_value.specs.World.{World, View, view_at, entries_named}
 use Rattle.reql_write_law.specs.Selecting.{slots, slots_of, slots_named}
 use Rattle.reql_feed_law.specs.Watched.{Part, whole, between, lies_in}
+use Rattle.reql_feed_law.proofs.Sources.{same_names, Source, table_source, bounds_of, slice, between_given, slice_source}
 use Rattle.reql_feed_law.proofs.Watched.{filter_all}
 use Rattle.reql_law.specs.Followed.{closed_value, closed_options, arguments, options, index_by, index_in, is_between, bounds, part_between, part_of}
 use Rattle.reql_law.proofs.Closed.{then_ok, if_ok, same_ok, IsLikeBare, ClosedArgument, closed_key, closed_given, text_named, same_takes}
-use Rattle.reql_law.proofs.Reading.{Starts, same_name}
-
-pub same_names : (m n : Bytes) → same_text m n ≡ true → m ≡ n
-same_names m n h = equal_texts m n (is_equal (text_order m n) h)
-
--- a source by an index: its rows, and its entries
-pub record Source (w : World) (n : ℕ) (name : Bytes) (es : List Entry) (s : Sense) : Type 0 where
-  pub meant : Meant
-  pub rows : List Plain
-  pub is : argument 0 s w [] ≡ Ok (given meant)
-  pub elements : to_sequence w meant ≡ Ok rows
-  pub entries : index_source w name meant ≡ Ok (n, es)
-
-table_source : (w : World) (n : ℕ) (v : View) (name : Bytes) (es : List Entry) → view_at w n ≡ Ok v → entries_named v name ≡ Ok es → Source w n name es (plain (table_of n))
-table_source w n v name es at there = record { meant = table n; rows = documents_of v; is = rw at refl; elements = rw at refl; entries = rw at (rw there refl) }
-
--- ---- BETWEEN, by what its arguments and options give
-abbrev bounds_of : Bytes → Plain → Bool → Plain → Bool → Bounds
-bounds_of name bottom bottom_open top top_open = record { index = name; low = bottom; low_open = bottom_open; high = top; high_open = top_open }
-
-abbrev slice : ℕ → Bounds → List Entry → Meant
-slice n b es = selection n (slice_between b) (documents_in (bounded b es))
-
-between_given : (w : World) (n : ℕ) (v : View) (l h : Sense) (xs : List (Bytes × Sense)) (ml mh : Meant) (bottom top : Plain) (os : Options) (index : Option Bytes) (bottom_open top_open : Bool) (name : Bytes) (es : List Entry)
-    → view_at w n ≡ Ok v → argument 1 l w [] ≡ Ok (given ml) → to_datum ml ≡ Ok bottom → may_bound bottom ≡ true → argument 2 h w [] ≡ Ok (given mh) → to_datum mh ≡ Ok top → may_bound top ≡ true
-    → senses.options option xs w [] ≡ Ok os → index_text os ≡ Ok index → left_is_open os ≡ Ok bottom_open → right_is_open os ≡ Ok top_open → unwrap_or index v.key ≡ name → entries_named v name ≡ Ok es
-    → strict between_rule (plain (table_of n) ∷ l ∷ h ∷ []) xs w [] ≡ Ok (slice n (bounds_of name bottom bottom_open top top_open) es)
-between_given w n v l h xs ml mh bottom top os index bottom_open top_open name es at l_is l_datum l_may h_is h_datum h_may os_are index_is low_is high_is named_so entries =
-    rw at (rw l_is (rw h_is (rw os_are (rw at (rw l_datum (rw h_datum (rw l_may (rw h_may (rw index_is (rw low_is (rw high_is (rw named_so (rw entries refl)))))))))))))
+use Rattle.reql_law.proofs.Reading.{Starts}
 
 if_fits : (b : Bool) (s t : Sense) (w : World) (m : Meant) → b ≡ true → argument 0 s w [] ≡ Ok (given m) → argument 0 (if b then s else t) w [] ≡ Ok (given m)
 if_fits true s t w m fit h = h
 if_fits false s t w m fit h = absurd (cc (fit))
-
-slice_source : (w : World) (n : ℕ) (v : View) (name : Bytes) (es : List Entry) (b : Bounds) (s : Sense) → b.index ≡ name → view_at w n ≡ Ok v → entries_named v name ≡ Ok es
-    → argument 0 s w [] ≡ Ok (given (slice n b es)) → Source w n name (bounded b es) s
-slice_source w n v name es b s e at there is = record {
-  meant = slice n b es;
-  rows = documents_in (bounded b es);
-  is = is;
-  elements = refl;
-  entries = rw (ap (λ x. same_text x name) e ∙ same_name name) (rw at (rw there refl));
-}
 
 -- ---- the part that a term is read for
 pub record PartGives (key : Bytes) (name : Bytes) (part : Part) (f : Form) : Type 0 where
