@@ -1,2 +1,5 @@
 pub mod Shown
 pub mod Steps
+pub mod Places
+pub mod Agreeing
+pub mod Histories

@@ -2,3 +2,4 @@ pub mod Catalog
 pub mod Machine
 pub mod Bounds
 pub mod Worked
+pub mod Agreeing
