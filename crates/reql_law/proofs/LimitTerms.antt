@@ -1,14 +1,16 @@
 -- A limit feed shows the list of its term, by an index or by primary key.
 use Rattle.std.proofs.Common.{◌≡◌, ℕ, nat_eq, List, [], ◌∷◌, take, Bool, true, false, ◌&&◌, if◌then◌else◌, Option, Some, None, Ok, Err, refl, sym, ap, ◌∙◌, subst, arith}
-use Rattle.std.specs.List.{filter}
-use Rattle.reql_datum.specs.Answer.{◌>>=◌}
+use Rattle.reql_datum.specs.Answer.{Answer, ◌>>=◌}
 use Rattle.reql_datum.specs.Members.{find}
+use Rattle.reql_datum.specs.Plain.{Plain}
 use Rattle.reql_rules.specs.Faults.{misplaced}
 use Rattle.reql_rules.specs.Lists.{Bytes}
 use Rattle.reql_rules.specs.Types.{same_text}
-use Rattle.reql_term.specs.Views.{Document, Entry, Index, documents_in, directed, primary}
+use Rattle.reql_term.specs.Views.{Document, Entry, Index, documents_in, primary}
 use Rattle.reql_bag.specs.Bag.{in_order}
 use Rattle.reql_value.specs.Index.{index_list, plain_view}
+use Rattle.reql_value.specs.Meaning.{value}
+use Rattle.reql_value.specs.Wanted.{to_sequence}
 use Rattle.reql_value.specs.World.{View, view_at, entries_named}
 use Rattle.reql_write_law.specs.Selecting.{slots}
 use Rattle.reql_feed_law.specs.Feeds as feeds
@@ -26,7 +28,7 @@ use Rattle.reql_law.specs.Table.{Held, is_limit, held_at, held_by, feed_of}
 use Rattle.reql_law.specs.Terms.{in_places, LimitsShowTheirTerms}
 use Rattle.reql_law.specs.declared.command.FeedSpec.{FeedSpec}
 use Rattle.reql_law.proofs.Closed.{then_ok, if_ok, same_ok, like_bare}
-use Rattle.reql_law.proofs.Orders.{first_gives}
+use Rattle.reql_law.proofs.Orders.{in_order_of, first_gives}
 use Rattle.reql_law.proofs.Reading as reading
 use Rattle.reql_law.proofs.Reading.{both}
 
@@ -79,7 +81,7 @@ stood spec (Some s) name indexes i h opened limit same off found =
 record Shown (offsets : Bool) (o : Ordered) (most : ℕ) (v : View) (docs : List Document) (k : Kept) : Type 0 where
   es : List Entry
   entries : entries_named v o.name ≡ Ok es
-  shows : value_at (watch_of k) offsets docs ≡ in_places offsets (take most (documents_in (directed o.down (filter (lies_in o.part) es))))
+  shows : value_at (watch_of k) offsets docs ≡ in_places offsets (take most (documents_in (in_order_of o es)))
 
 module _ (db : Bytes) (db_number : ℕ) (table_name : Bytes) (indexes : Indexes) (h : Held) (o : Ordered) (most : ℕ) (docs : List Document) (k : Kept) where
   abbrev view : View
@@ -109,6 +111,12 @@ module _ (db : Bytes) (db_number : ℕ) (table_name : Bytes) (indexes : Indexes)
   shown_in_order true on s is = shown_by_key on (same_ok (by_primary o.part o.down most) k is)
   shown_in_order false off s is = shown_by_found (find o.name h.indexes) off (s off) is
 
+-- the rows of the term, and what is shown
+joined : (offsets : Bool) (o : Ordered) (n most : ℕ) (es : List Entry) (rows : Answer (List Plain)) (shown told : List Plain) → rows ≡ Ok (take n (documents_in (in_order_of o es))) → n ≡ most → shown ≡ in_places offsets (take most (documents_in (in_order_of o es)))
+    → told ≡ shown → (rows >>= λ vs. Ok (in_places offsets vs)) ≡ Ok told
+joined offsets o n most es rows shown told r e s t =
+    ap (λ a. a >>= λ vs. Ok (in_places offsets vs)) r ∙ ap (λ k. Ok (in_places offsets (take k (documents_in (in_order_of o es))))) e ∙ ap (λ vs. Ok vs) (sym s ∙ sym t)
+
 pub limit_terms : LimitsShowTheirTerms
 limit_terms indexes h k most w docs accepted kind has =
     let read : first_shape h.spec h.indexes most ≡ Ok k = subst (λ x. shape_by x h.spec h.indexes ≡ Ok k) kind accepted.read in
@@ -123,6 +131,4 @@ limit_terms indexes h k most w docs accepted kind has =
     let at : view_at w g.slot_is ≡ Ok v = subst (λ n. view_at w n ≡ Ok v) (reading.first_of g.slot_is (slots h.spec.shape) g.starts) has.table in
     let rows = g.gives w (like_bare w has.limit has.databases) v refl at s.es s.entries in
     let value_is : feeds.value (feed_of h) docs ≡ value_at (watch_of k) h.spec.offsets docs = ap (λ x. value_at (watch_of (or_nothing h.spec.kind x)) h.spec.offsets docs) accepted.read in
-    ap (λ a. a >>= λ vs. Ok (in_places h.spec.offsets vs)) rows
-    ∙ ap (λ n. Ok (in_places h.spec.offsets (take n (documents_in (directed o.down (filter (lies_in o.part) s.es)))))) (equal p.0.1 most asked.0)
-    ∙ ap (λ vs. Ok vs) (sym s.shows ∙ sym value_is)
+    joined h.spec.offsets o p.0.1 most s.es (value h.spec.shape w [] >>= to_sequence w) (value_at (watch_of k) h.spec.offsets docs) (feeds.value (feed_of h) docs) rows (equal p.0.1 most asked.0) s.shows value_is

@@ -56,7 +56,7 @@ order_index_is (literal d) i h =
     subst (λ x. Directed (literal d) x.0 x.1) (same_ok (n.0, false) i n.2) (named_up (literal d) n.0 n.1)
 order_index_is f i h = absurd (cc (h))
 
-abbrev in_order_of : Ordered → List Entry → List Entry
+abbrev pub in_order_of : Ordered → List Entry → List Entry
 in_order_of o es = directed o.down (filter (lies_in o.part) es)
 
 -- the order that a term is read for

@@ -1,6 +1,6 @@
 -- The worked rows, by computing.
 use Rattle.std.specs.Prelude.{refl}
-use Rattle.reql_law.specs.Worked.{Inserted, Written, Indexed, Ordered, Followed, Queued, Pointed, Squashed, Ended}
+use Rattle.reql_law.specs.Worked.{Inserted, Written, Indexed, Ordered, Followed, Queued, Pointed, Spelled, Squashed, Ended}
 
 pub inserted : Inserted
 inserted = (refl, refl, refl)
@@ -22,6 +22,9 @@ queued = (refl, refl, refl, refl, refl, refl, refl)
 
 pub pointed : Pointed
 pointed = (refl, refl, refl)
+
+pub spelled : Spelled
+spelled = (refl, refl)
 
 pub squashed : Squashed
 squashed = (refl, refl)

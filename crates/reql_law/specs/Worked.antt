@@ -4,9 +4,9 @@ use Rattle.std.specs.Prelude.{◌≡◌, ℕ, ◌-◌, ◌^◌, List, [], ◌∷
 use Rattle.reql_datum.specs.Plain.{Plain, null}
 use Rattle.reql_rules.specs.Lists.{Bytes}
 use Rattle.reql_term.specs.Form.{Form, literal, slot}
-use Rattle.reql_term.specs.Views.{Document, Index}
+use Rattle.reql_term.specs.Views.{Index}
 use Rattle.reql_term.specs.declared.op.Op.TheVariants as op
-use Rattle.reql_value.specs.Short.{n, t, o, num, name, call, with, fun, field}
+use Rattle.reql_value.specs.Short.{n, o, num, name, call, with, fun, field}
 use Rattle.reql_write_law.specs.declared.command.Act.{Act}
 use Rattle.reql_write_law.specs.declared.command.Act.TheVariants as act
 use Rattle.reql_write_law.specs.declared.command.Conflict.TheVariants as conflict
@@ -18,7 +18,7 @@ use Rattle.reql_feed_law.specs.declared.kind.FeedKind.{FeedKind}
 use Rattle.reql_feed_law.specs.declared.kind.FeedKind.TheVariants as kinds
 use Rattle.reql_table_machine.specs.declared.command.Said.{Said}
 use Rattle.reql_table_machine.specs.declared.command.Said.TheVariants as said
-use Rattle.reql_law.specs.Machine.{State, Seen, step, seen, unused}
+use Rattle.reql_law.specs.Machine.{State, step, seen, unused}
 use Rattle.reql_law.specs.Replies.{Answered}
 use Rattle.reql_law.specs.declared.command.Cmd.{Cmd}
 use Rattle.reql_law.specs.declared.command.Cmd.TheVariants as cmds
@@ -194,6 +194,21 @@ Pointed =
     (answer fresh (point 1) ≡ told 1 0 (said.Opened 1 (o ((codes "new_val", null) ∷ []) ∷ [])))
     × (answer one (point 1) ≡ told 2 1 (said.Opened 2 (o ((codes "new_val", doc 1 5) ∷ []) ∷ [])))
     × (answer (run fresh (point 1 ∷ insert (doc 1 5 ∷ doc 2 5 ∷ []) ∷ [])) (cmds.Take 1 1000) ≡ told 3 2 (said.Batch 0 0 ((1, item (doc 1 5) null) ∷ [])))
+
+-- spellings: bounds and keys that are closed terms, one bound said and the other as it is usual, ASC of an index, and a table's slot of another number
+abbrev sum : ℕ → ℕ → Form
+sum i j = call op.Add (num i ∷ num j ∷ [])
+
+abbrev above_two : Form
+above_two = with op.Between (slot 7 ∷ sum 1 1 ∷ num 9 ∷ []) ((codes "index", name "n") ∷ (codes "left_bound", name "open") ∷ [])
+
+abbrev first_above_two : ℕ → Cmd
+first_above_two k = cmds.Subscribe (feed (kinds.Limit k) (call op.Limit (with op.OrderBy (above_two ∷ []) ((codes "index", call op.Asc (name "n" ∷ [])) ∷ []) ∷ num k ∷ [])) (Some "n") 100 true false)
+
+abbrev pub Spelled : Type 0
+Spelled =
+    (answer (run fresh (index "n" false ∷ three 4 2 3 ∷ [])) (first_above_two 5) ≡ told 3 3 (said.Opened 3 (first_at 0 (doc 3 3) ∷ first_at 1 (doc 1 4) ∷ [])))
+    × (answer one (cmds.Subscribe (feed kinds.Point (call op.Get (slot 7 ∷ sum 0 1 ∷ [])) None 100 false false)) ≡ told 2 1 (said.Opened 2 (o ((codes "new_val", doc 1 5) ∷ []) ∷ [])))
 
 -- joined: a document and its update are one item, and one that went and came again as it was is none, though the Take is an entry
 abbrev joined : State
