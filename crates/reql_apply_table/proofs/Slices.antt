@@ -85,7 +85,7 @@ below_high (time t) = refl
 below_high (text s) = refl
 below_high high = refl
 
-counted : (ms : List Document) → length (documents_in (primary ms)) ≡ length ms
+pub counted : (ms : List Document) → length (documents_in (primary ms)) ≡ length ms
 counted [] = refl
 counted (m ∷ ms) = ap suc (counted ms)
 
@@ -93,5 +93,6 @@ pub all_between : (es : List Entry) → entries_between low false high false fal
 all_between [] = refl
 all_between (e ∷ es) = rw (above_low e.0, below_high e.0) (ap (λ fs. e ∷ fs) (all_between es))
 
-pub whole : (ms : List Document) → length (documents_in (entries_between low false high false false (primary ms))) ≡ length ms
-whole ms = rw (all_between (primary ms)) (counted ms)
+pub any_between : (a : Option (List Entry)) → option_map (entries_between low false high false false) a ≡ a
+any_between None = refl
+any_between (Some es) = ap Some (all_between es)

@@ -7,7 +7,7 @@ use Rattle.reql_datum.specs.Kinds.{is_storable}
 use Rattle.reql_datum.specs.Order.{order}
 use Rattle.reql_datum.specs.Plain.{Plain}
 use Rattle.reql_memory.specs.Sorted.{find_by}
-use Rattle.reql_term.specs.Views.{Entry, all_of, documents_in, entries_of}
+use Rattle.reql_term.specs.Views.{Entry, all_of, beside, documents_in, entries_of}
 use Rattle.reql_rules.specs.Faults.{no_index}
 use Rattle.reql_rules.specs.Lists.{Bytes, each}
 use Rattle.reql_value.specs.Meant.{Bounds, bounded, slice_between, Meant, Given, Options, selection, row, some_rows}
@@ -18,6 +18,10 @@ use Rattle.reql_value.specs.World.{View, entries_named}
 -- the entries of an index, or of the primary order; none where there is no such index
 abbrev pub entries_at : View → Option Bytes → List Entry
 entries_at v i = unwrap_or (entries_of v.documents v.indexes v.entries i) []
+
+-- the values of the entries of the index of a name, and beside them their documents
+abbrev pub entries_beside : View → Bytes → Answer (List Plain × List Plain)
+entries_beside v name = entries_named v name >>= λ es. Ok (beside es)
 
 -- the documents of the entries that have each of the keys, by the index of a name
 abbrev pub having : View → Bytes → List Plain → Answer (List Plain)

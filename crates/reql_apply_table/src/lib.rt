@@ -15,5 +15,5 @@ pub use admin::{
 pub use indexes::{index_list, index_statuses};
 pub use keyed::{get, get_all};
 pub use ranged::between;
-pub use sources::{documents_having, entries_source, index_or_key};
+pub use sources::{documents_having, entries_named, entries_source, index_or_key};
 pub use telling::{config, db, info, status};

@@ -10,7 +10,7 @@ ghost use Rattle.reql_operand.specs.Seen.{meant, bounds as bounds_of, documents_
 ghost use Rattle.reql_operand.specs.Tables.{view, seen};
 ghost use Rattle.reql_apply_table.specs.Sources.{entries_at, sliced, sliced_by, between_at};
 
-use crate::sources::{entries_source, index_or_key, table_in};
+use crate::sources::{copy_name, entries_source, index_or_key, table_in};
 use reql_datum::{Datum, Fault, Memory, Name};
 use reql_operand::{
     Arg, Bounds, Choice, Slice, Value, Viewed, World, as_datum, index_text, left_is_open,
@@ -50,15 +50,6 @@ fn range_of(index: Option<&Name>, bounds: &Bounds) -> Result<Range, Memory>
         high: bounds.high.copy()?,
         down: false,
     })
-}
-
-fn copy_name(name: Option<&Name>) -> Result<Option<Name>, Memory>
-    ensures { IfOk result (λ o. o ≡ option_map (λ n. n.now) name.entry) }
-{
-    match name {
-        Some(text) => Ok(Some(text.copy()?)),
-        None => Ok(None),
-    }
 }
 
 // A slice of a table, which isn't read.

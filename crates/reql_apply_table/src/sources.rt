@@ -1,18 +1,19 @@
 // The indexes of a table, as terms ask for them.
-ghost use Rattle.std.specs.Prelude.{◌≡◌, IfOk, Some, option_map, if◌then◌else◌};
+ghost use Rattle.std.specs.Prelude.{◌≡◌, List, ℕ, IfOk, Ok, Some, option_map, if◌then◌else◌};
 ghost use Rattle.std.specs.Option.{unwrap_or};
 ghost use Rattle.reql_datum.specs.Outcome.{Gives};
 ghost use Rattle.reql_datum.specs.View.{plain};
+ghost use Rattle.reql_term.specs.Views.{Document, Entry, Index, entries_in, entries_of, beside, seen_beside};
 ghost use Rattle.reql_value.specs.Tables.{index_or_key as index_or_key_of};
 ghost use Rattle.reql_value.specs.World.{World as Seen, view_at, index_name, entries_named};
 ghost use Rattle.reql_value.specs.Wanted.{as_table as as_table_of};
 ghost use Rattle.reql_operand.specs.Seen.{shown};
 ghost use Rattle.reql_operand.specs.Tables.{view, seen};
-ghost use Rattle.reql_apply_table.specs.Sources.{entries_at, having};
+ghost use Rattle.reql_apply_table.specs.Sources.{entries_at, entries_beside, having};
 
-use reql_datum::{Datum, Fault, Items, Name};
+use reql_datum::{Datum, Fault, Items, Memory, Name};
 use reql_operand::{Arg, Viewed, World, as_table, no_index, same_text};
-use reql_term::{TableView, ViewFault};
+use reql_term::{Bound, Entries, Range, TableView, ViewFault};
 use std::alloc::Global;
 
 /// The table, as an argument, which is then the one in its slot.
@@ -70,6 +71,69 @@ pub fn entries_source<'a, V: TableView>(
     match table.view.index(name) {
         Some(_) => Ok(Some(name)),
         None => Err(Fault::OpFailed(no_index(alloc, name.as_str())?)),
+    }
+}
+
+/// The values of all entries of an index of a name, in order, and beside them their documents.
+pub fn entries_named<V: TableView>(
+    alloc: Global,
+    table: &Viewed<V>,
+    name: &Name,
+) -> Result<Entries, Fault>
+    ensures { Gives seen_beside result
+        (entries_beside (view V.documents V.indexes V.entries table.now) name.now) }
+{
+    let index = entries_source(alloc, table, name)?;
+    entries_by(alloc, table, index)
+}
+
+fn entries_by<V: TableView>(
+    alloc: Global,
+    table: &Viewed<V>,
+    index: Option<&Name>,
+) -> Result<Entries, Fault>
+    ensures { Gives seen_beside result
+        (Ok (beside (entries_at (view V.documents V.indexes V.entries table.now)
+        (option_map (λ n. n.now) index.entry)))) }
+{
+    let range = whole_range(copy_name(index)?);
+    match table.view.entries_between(alloc, &range) {
+        Ok(entries) => Ok(entries),
+        Err(ViewFault::IndexMissing) => Ok(Entries {
+            values: Items::new(alloc),
+            documents: Items::new(alloc),
+        }),
+        Err(ViewFault::Memory) => Err(Fault::Memory),
+    }
+}
+
+/// All of an index, or of the primary order.
+pub(crate) fn whole_range(index: Option<Name>) -> Range
+    ensures { (documents : List Document) (indexes : List (List ℕ × Index))
+        (entries : List ℕ → List Entry) → entries_in documents indexes entries result
+        ≡ entries_of documents indexes entries index }
+{
+    Range {
+        index,
+        low: Bound {
+            value: Datum::Low,
+            is_open: false,
+        },
+        high: Bound {
+            value: Datum::High,
+            is_open: false,
+        },
+        down: false,
+    }
+}
+
+/// The same name, shared.
+pub(crate) fn copy_name(name: Option<&Name>) -> Result<Option<Name>, Memory>
+    ensures { IfOk result (λ o. o ≡ option_map (λ n. n.now) name.entry) }
+{
+    match name {
+        Some(text) => Ok(Some(text.copy()?)),
+        None => Ok(None),
     }
 }
 

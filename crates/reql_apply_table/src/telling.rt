@@ -12,12 +12,13 @@ ghost use Rattle.reql_apply_table.specs.Told.{about as about_in};
 
 use crate::admin::{About, db_config, db_info, table_config, table_info, table_status, type_info};
 use crate::indexes::index_names;
+use crate::sources::whole_range;
 use reql_datum::{Datum, Fault, Memory, Name};
 use reql_operand::{
     Arg, Value, Viewed, World, as_table, misplaced, table_at, text_in_arg, type_name, value_of,
     wrong, wrong_arg,
 };
-use reql_term::{Bound, Range, TableView, ViewFault};
+use reql_term::{TableView, ViewFault};
 use std::alloc::Global;
 
 /// DB: the database of a name.
@@ -65,23 +66,11 @@ fn about<V: TableView>(table: &Viewed<V>) -> Result<About, Memory>
 }
 
 // How many documents a table has, which the view counts.
-#[tactic(auto, using(crate::proofs::Slices::whole))]
+#[tactic(auto, using(crate::proofs::Slices::counted))]
 fn count_documents<V: TableView>(table: &Viewed<V>) -> Result<u64, Memory>
     ensures { IfOk result (λ n. n ≡ length (V.documents table.now.view)) }
 {
-    let whole = Range {
-        index: None,
-        low: Bound {
-            value: Datum::Low,
-            is_open: false,
-        },
-        high: Bound {
-            value: Datum::High,
-            is_open: false,
-        },
-        down: false,
-    };
-    match table.view.count_between(&whole) {
+    match table.view.count_between(&whole_range(None)) {
         Ok(count) => Ok(count),
         Err(ViewFault::IndexMissing) => unreachable!(),
         Err(ViewFault::Memory) => Err(Memory),

@@ -79,8 +79,8 @@ fn paired<F: Fn(&Datum) -> Result<Datum, Fault>>(
     Ok(pairs)
 }
 
-// Null where a value is missing.
-fn or_null(answer: Result<Datum, Fault>) -> Result<Datum, Fault>
+/// Null where a value is missing, as a group takes it.
+pub fn or_null(answer: Result<Datum, Fault>) -> Result<Datum, Fault>
     ensures { (a : Answer Plain) → Gives plain answer a → Gives plain result (or_null a) }
 {
     match answer {

@@ -8,7 +8,7 @@ mod sides;
 mod ungrouping;
 mod zipping;
 
-pub use gathering::{group, group_beside};
+pub use gathering::{group, group_beside, or_null};
 pub use grouped::Groups;
 pub use joining::{eq_join, join};
 pub use ungrouping::ungroup;
