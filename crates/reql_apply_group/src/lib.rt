@@ -5,6 +5,6 @@ mod joins;
 mod totals;
 mod ungrouping;
 
-pub use joins::{join, zip};
+pub use joins::{eq_join, join, zip};
 pub use totals::total;
 pub use ungrouping::ungroup;
