@@ -1,1 +1,3 @@
 pub mod Keyed
+pub mod Grouped
+pub mod Joined
