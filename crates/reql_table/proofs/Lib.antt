@@ -5,3 +5,5 @@ mod Named
 mod Steps
 mod Turned
 mod Rising
+mod Filing
+mod Listed
