@@ -1,4 +1,4 @@
-use crate::{Adder, add_by_two, call_by_many};
+use crate::{Adder, add_by_two, call_by_many, work_at_desks};
 use reql_shared::Shared;
 use std::test::Fail;
 
@@ -53,6 +53,30 @@ fn each_look_is_a_beginning_of_the_list_at_the_end(rt: HostRuntime) -> Result<()
         for look in &worker.looks {
             assert!(rt; calls.starts_with(look.as_slice()));
         }
+    }
+    Ok(())
+}
+
+#[test]
+fn each_slot_holds_what_each_desk_gave_it_once_and_in_order(rt: HostRuntime) -> Result<(), Fail> {
+    let last = work_at_desks(&rt, rt.alloc(), 2, 300)?;
+    for slot in 0..3 {
+        let entries = last.engine(slot).entries.as_slice();
+        let mut next = [u64::from(slot); 2];
+        for (by, number) in entries {
+            if let Some(due) = next.get_mut(*by as usize) {
+                assert_eq!(rt; *number, *due);
+                *due = due.wrapping_add(3);
+            }
+        }
+        let due = 300 + u64::from(slot);
+        assert_eq!(rt; (entries.len(), next), (200, [due; 2]));
+    }
+    for desk in last.desks() {
+        assert_eq!(rt;
+            (desk.place(0), desk.visits(2), desk.names_place()),
+            (200, 100, 2)
+        );
     }
     Ok(())
 }
