@@ -4,3 +4,8 @@ pub mod Steps
 pub mod Ranges
 pub mod Indexes
 pub mod Pairs
+pub mod Edges
+pub mod Entries
+pub mod Ordered
+pub mod Shown
+pub mod Onwards

@@ -1,5 +1,5 @@
 -- Parts of sequences, and the range of all that a table has.
-use Rattle.std.proofs.Common.{◌≡◌, ◌≤◌, ◌<◌, refl, sym, ap, ◌∙◌, arith, rules, ℕ, zero, suc, ◌+◌, ◌-◌, min, Bool, true, false, ◌&&◌, cond, List, [], ◌∷◌, map, take, drop, length, length-drop, take_all, filter, nat_eq, slice_range, Ok}
+use Rattle.std.proofs.Common.{◌≡◌, ◌≤◌, refl, sym, ap, ◌∙◌, arith, rules, ℕ, zero, suc, ◌+◌, ◌-◌, min, Bool, true, false, ◌&&◌, List, [], ◌∷◌, map, take, drop, length, length-drop, take_all, filter, nat_eq, slice_range, Ok}
 use native.Mathlib.Numerals.{unary_clauses}
 use Rattle.std.specs.Ordering.{is_le}
 use Rattle.reql_datum.specs.Answer.{Answer}
@@ -46,7 +46,7 @@ pub whole_at : (ms : List Document) → documents_in (primary ms) ≡ map (λ m.
 whole_at [] = refl
 whole_at (m ∷ ms) = ap (λ ds. m.1 ∷ ds) (whole_at ms)
 
-abbrev Same : {B : Type 0} → Answer B → Answer B → Type 0
+abbrev pub Same : {B : Type 0} → Answer B → Answer B → Type 0
 Same a b = a ≡ b
 
 module _ {A : Type 0} where

@@ -1,5 +1,6 @@
 -- The values of an index, and DISTINCT of them.
 use Rattle.std.specs.Prelude.{ℕ, List, [], Option, Some, None, Ok, Err}
+use Rattle.std.specs.Option.{unwrap_or}
 use Rattle.reql_datum.specs.Answer.{Answer, ◌>>=◌}
 use Rattle.reql_datum.specs.Plain.{Plain}
 use Rattle.reql_term.specs.Views.{Entry, entries_of, values_in}
@@ -14,6 +15,9 @@ use Rattle.reql_value.specs.World.{World, View, view_at, entries_named}
 -- the entries of an index, as a view is asked for them
 abbrev pub entries_by : View → Option Bytes → Option (List Entry)
 entries_by v index = entries_of v.documents v.indexes v.entries index
+
+abbrev pub entries_any : View → Option Bytes → List Entry
+entries_any v index = unwrap_or (entries_by v index) []
 
 abbrev pub named : View → Bytes → Answer (Option (List Entry))
 named v name = entries_named v name >>= λ es. Ok (Some es)

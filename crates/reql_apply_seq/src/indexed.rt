@@ -2,9 +2,10 @@
 ghost use Rattle.std.specs.Prelude.{◌≡◌, List, ℕ, Ok};
 ghost use Rattle.reql_datum.specs.Outcome.{Gives};
 ghost use Rattle.reql_term.specs.Views.{Document, Entry, Index, entries_in, entries_of};
+ghost use Rattle.reql_value.specs.World.{entries_named};
 ghost use Rattle.reql_operand.specs.Seen.{meant};
 ghost use Rattle.reql_operand.specs.Tables.{view, seen};
-ghost use Rattle.reql_apply_seq.specs.Indexes.{entries_by, named, values_any, named_values as named_values_of, table_values as table_values_of};
+ghost use Rattle.reql_apply_seq.specs.Indexes.{entries_by, entries_any, named, values_any, named_values as named_values_of, table_values as table_values_of};
 
 use reql_datum::{Datum, Fault, Items, Name};
 use reql_operand::{Value, Viewed, World, misplaced_order, no_index, same_text, table_at};
@@ -38,14 +39,16 @@ fn named_values<V: TableView>(alloc: Global, table: &Viewed<V>, name: &Name) -> 
     values_by(alloc, table, index)
 }
 
-// The name of an index as a view is asked for it: none where it is that of the key field.
-fn index_there<V: TableView>(
+/// The name of an index as a view is asked for it: none where it is that of the key field.
+pub(crate) fn index_there<V: TableView>(
     alloc: Global,
     table: &Viewed<V>,
     name: &Name,
 ) -> Result<Option<Name>, Fault>
-    ensures { let v = view V.documents V.indexes V.entries table.now in
+    ensures named { let v = view V.documents V.indexes V.entries table.now in
         Gives (entries_by v) result (named v name.now) }
+    ensures there { let v = view V.documents V.indexes V.entries table.now in
+        Gives (entries_any v) result (entries_named v name.now) }
 {
     if same_text(name.as_str(), table.key.as_str()) {
         return Ok(None);

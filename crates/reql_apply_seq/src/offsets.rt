@@ -56,8 +56,8 @@ fn offsets_in<V: TableView, F: Fn(usize, &[Datum]) -> Result<Value, Fault>>(
     liked(source, places)
 }
 
-// What was answered, as a sequence of the first argument's kind.
-fn liked(source: &Arg, answer: Result<Items, Fault>) -> Result<Value, Fault>
+/// What was answered, as a sequence of the first argument's kind.
+pub(crate) fn liked(source: &Arg, answer: Result<Items, Fault>) -> Result<Value, Fault>
     ensures { (w : Seen) (a : Answer (List Plain)) → Gives (λ items. items) answer a
         → Gives (meant w) result (like_any (shown w source.now) a) }
 {

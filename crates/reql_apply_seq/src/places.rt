@@ -10,7 +10,7 @@ use std::alloc::Global;
 
 /// A number from 0 on as it is, and a negative one as the place from the end that it stands for: of
 /// -1 it is 0.
-fn front_or_back(n: Whole) -> Result<usize, usize>
+pub(crate) fn front_or_back(n: Whole) -> Result<usize, usize>
     ensures { MatchResult result (λ k. n ≡ pos k) (λ k. n ≡ negsuc k) }
 {
     let n = n.get();
