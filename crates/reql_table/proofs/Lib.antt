@@ -7,3 +7,4 @@ mod Turned
 mod Rising
 mod Filing
 mod Listed
+mod Sends

@@ -11,6 +11,7 @@ mod reads;
 mod refile;
 mod slice;
 mod table;
+mod threads;
 mod view;
 mod walk;
 
