@@ -1,18 +1,19 @@
 -- The rules of the operators, by kinds of operators.
-use Rattle.std.specs.Prelude.{take, drop, Bool, true, false}
+use Rattle.std.specs.Prelude.{take, drop, true, false}
 use Rattle.reql_datum.specs.Plain.{low, high}
 use Rattle.reql_value.specs.Arrays.{end_edit, place_edit, delete_at, splice_at, set_insert, set_operation}
 use Rattle.reql_value.specs.Coercions.{coerce_to}
 use Rattle.reql_value.specs.Meant.{Rule}
 use Rattle.reql_value.specs.Scalars.{make_array, raise, funcall, type_of, literal, constant, comparison, negation, arithmetic, epoch_time, to_epoch_time}
-use Rattle.reql_value.specs.Sequenced.{datum, array, streamed, like_first, alike_first}
-use Rattle.reql_value.specs.Sequences.{reduce_rule, map_rule, count_rule, counted_part, is_empty, contains, union_rule, range_rule}
-use Rattle.reql_value.specs.Fields.{get_field_rule, nth_rule, bracket, has_fields_rule, by_patterns, merge_rule, keys_rule, values_rule, object_rule}
+use Rattle.reql_value.specs.Sequenced.{datum, array, streamed, in_groups, like_first, alike_first}
+use Rattle.reql_value.specs.Sequences.{reduce_rule, map_rule, concat_map, filter_rule, count_rule, slice_rule, counted_part, is_empty, offsets_of, contains, union_rule, range_rule}
+use Rattle.reql_value.specs.Orders.{order_by, distinct_rule}
+use Rattle.reql_value.specs.Groups.{group_rule, ungroup_rule, total_rule}
+use Rattle.reql_value.specs.Joins.{join_rule, eq_join, zip_rule}
+use Rattle.reql_value.specs.Fields.{get_field_rule, nth_rule, bracket, has_fields_rule, with_fields, by_patterns, merge_rule, keys_rule, values_rule, object_rule}
 use Rattle.reql_rules.specs.Patterns.{pluck, without}
-use Rattle.reql_value.specs.Tables.{get_rule, between_rule, index_list_rule, db_rule, told, info_of, config_of, status_rule}
+use Rattle.reql_value.specs.Tables.{get_rule, get_all_rule, between_rule, index_list_rule, index_statuses, db_rule, told, info_of, config_of, status_rule}
 use Rattle.reql_value.specs.Table.{no_rule}
-use Rattle.reql_term.specs.declared.op.Op.{Op}
-use Rattle.reql_term.specs.declared.op.Op.TheVariants as op
 use Rattle.reql_apply.specs.declared.kinds.Kind.{Kind}
 use Rattle.reql_apply.specs.declared.kinds.Kind.TheVariants as k
 use Rattle.reql_apply.specs.declared.kinds.Scalar.{Scalar}
@@ -27,6 +28,8 @@ use Rattle.reql_apply.specs.declared.kinds.OnSequence.{OnSequence}
 use Rattle.reql_apply.specs.declared.kinds.OnSequence.TheVariants as q
 use Rattle.reql_apply.specs.declared.kinds.OnPart.{OnPart}
 use Rattle.reql_apply.specs.declared.kinds.OnPart.TheVariants as p
+use Rattle.reql_apply.specs.declared.kinds.OnGroups.{OnGroups}
+use Rattle.reql_apply.specs.declared.kinds.OnGroups.TheVariants as g
 
 abbrev pub scalar_rule : Scalar → Rule
 scalar_rule s.MakeArray = array make_array
@@ -57,6 +60,7 @@ fields_rule f.Bracket = bracket
 fields_rule f.HasFields = has_fields_rule
 fields_rule f.Pluck = by_patterns pluck
 fields_rule f.Without = by_patterns without
+fields_rule f.WithFields = like_first with_fields
 fields_rule f.Merge = merge_rule
 fields_rule f.Keys = datum keys_rule
 fields_rule f.Values = datum values_rule
@@ -65,8 +69,10 @@ fields_rule f.Object = datum object_rule
 abbrev pub table_rule : OnTable → Rule
 table_rule t.Db = db_rule
 table_rule t.Get = get_rule
+table_rule t.GetAll = get_all_rule
 table_rule t.Between = between_rule
 table_rule t.IndexList = array index_list_rule
+table_rule t.IndexStatuses = array index_statuses
 table_rule t.Info = datum (told info_of)
 table_rule t.Config = datum (told config_of)
 table_rule t.Status = datum status_rule
@@ -74,16 +80,31 @@ table_rule t.Status = datum status_rule
 abbrev pub sequence_rule : OnSequence → Rule
 sequence_rule q.Reduce = datum reduce_rule
 sequence_rule q.Map = like_first map_rule
+sequence_rule q.ConcatMap = like_first concat_map
+sequence_rule q.Filter = alike_first filter_rule
+sequence_rule q.OrderBy = order_by
+sequence_rule q.OffsetsOf = like_first offsets_of
 sequence_rule q.Count = datum count_rule
 sequence_rule q.Contains = datum contains
 
 abbrev pub part_rule : OnPart → Rule
 part_rule p.Union = union_rule
+part_rule p.Slice = alike_first slice_rule
 part_rule p.Skip = alike_first (counted_part drop)
 part_rule p.Limit = alike_first (counted_part take)
 part_rule p.Nth = datum nth_rule
 part_rule p.IsEmpty = datum is_empty
+part_rule p.Distinct = distinct_rule
 part_rule p.Range = streamed range_rule
+
+abbrev pub groups_rule : OnGroups → Rule
+groups_rule (g.Total op) = datum (total_rule op)
+groups_rule g.Group = in_groups group_rule
+groups_rule g.Ungroup = array ungroup_rule
+groups_rule g.InnerJoin = like_first (join_rule false)
+groups_rule g.OuterJoin = like_first (join_rule true)
+groups_rule g.EqJoin = like_first eq_join
+groups_rule g.Zip = like_first zip_rule
 
 abbrev pub kind_rule : Kind → Rule
 kind_rule (k.Scalar op) = scalar_rule op
@@ -92,28 +113,5 @@ kind_rule (k.OnFields op) = fields_rule op
 kind_rule (k.OnTable op) = table_rule op
 kind_rule (k.OnSequence op) = sequence_rule op
 kind_rule (k.OnPart op) = part_rule op
+kind_rule (k.OnGroups op) = groups_rule op
 kind_rule k.Misplaced = no_rule
-
--- whether the rule of an operator is called by its kind
-abbrev pub is_called : Op → Bool
-is_called op.WithFields = false
-is_called op.Filter = false
-is_called op.ConcatMap = false
-is_called op.OrderBy = false
-is_called op.Distinct = false
-is_called op.OffsetsOf = false
-is_called op.Slice = false
-is_called op.InnerJoin = false
-is_called op.OuterJoin = false
-is_called op.EqJoin = false
-is_called op.Zip = false
-is_called op.Group = false
-is_called op.Ungroup = false
-is_called op.Sum = false
-is_called op.Avg = false
-is_called op.Min = false
-is_called op.Max = false
-is_called op.GetAll = false
-is_called op.IndexStatus = false
-is_called op.IndexWait = false
-is_called o = true

@@ -5,11 +5,11 @@ ghost use Rattle.reql_datum.specs.Outcome.{Gives};
 ghost use Rattle.reql_datum.specs.Plain.{Plain};
 ghost use Rattle.reql_datum.specs.View.{plain};
 ghost use Rattle.reql_value.specs.World.{World as Seen};
-ghost use Rattle.reql_operand.specs.Seen.{meant, group};
-ghost use Rattle.reql_apply.specs.Wrapped.{of_datum, of_array, of_stream, of_groups};
+ghost use Rattle.reql_operand.specs.Seen.{meant, shown, group};
+ghost use Rattle.reql_apply.specs.Wrapped.{of_datum, of_array, of_stream, of_groups, of_like};
 
 use reql_datum::{Datum, Fault, Items};
-use reql_operand::{Group, Value};
+use reql_operand::{Arg, Group, Value, like};
 
 /// A document.
 #[tactic(auto, using(reql_operand::proofs::Steps::fails_on))]
@@ -55,6 +55,18 @@ pub(crate) fn grouped_value(found: Result<Vec<Group>, Fault>) -> Result<Value, F
 {
     match found {
         Ok(groups) => Ok(Value::Grouped(groups)),
+        Err(fault) => Err(fault),
+    }
+}
+
+/// A sequence of the kind of an argument.
+#[tactic(auto, using(reql_operand::proofs::Steps::fails_on))]
+pub(crate) fn like_source(source: &Arg, found: Result<Items, Fault>) -> Result<Value, Fault>
+    ensures { (w : Seen) (a : Answer (List Plain)) → Gives (λ items. items) found a
+        → Gives (meant w) result (of_like (shown w source.now) a) }
+{
+    match found {
+        Ok(items) => Ok(like(source, items)),
         Err(fault) => Err(fault),
     }
 }

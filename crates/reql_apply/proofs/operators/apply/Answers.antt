@@ -20,3 +20,6 @@ returns-in-OnFields g c calls h = rw c.in-OnFields.is (c.by_fields.ensures calls
 
 pub returns-in-OnTable : goal.returns-in-OnTable
 returns-in-OnTable g c calls h = rw c.in-OnTable.is (c.by_table.ensures calls)
+
+pub returns-in-OnGroups : goal.returns-in-OnGroups
+returns-in-OnGroups g c calls h = rw c.in-OnGroups.is (c.by_grouping.ensures calls h)

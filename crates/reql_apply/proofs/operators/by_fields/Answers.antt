@@ -46,3 +46,8 @@ pub returns-in-Object : goal.returns-in-Object
 returns-in-Object g c calls h =
     let w = seen g.V.TableView.documents g.V.TableView.indexes g.V.TableView.entries c.args.world.now in
     rw c.in-Object.is (c.one-in-Object.ensures w _ (c.object_rule.ensures w calls (all_chosen w c.args.opts.now)))
+
+pub returns-in-WithFields : goal.returns-in-WithFields
+returns-in-WithFields g c calls h =
+    let w = seen g.V.TableView.documents g.V.TableView.indexes g.V.TableView.entries c.args.world.now in
+    rw c.in-WithFields.is (c.with_fields_rule.ensures calls (all_chosen w c.args.opts.now))

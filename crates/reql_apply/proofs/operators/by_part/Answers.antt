@@ -31,3 +31,13 @@ pub returns-in-Range : goal.returns-in-Range
 returns-in-Range g c calls =
     let w = seen g.V.TableView.documents g.V.TableView.indexes g.V.TableView.entries c.args.world.now in
     rw c.in-Range.is (c.stream.ensures w _ (c.range.ensures w calls (all_chosen w c.args.opts.now)))
+
+pub returns-in-Distinct : goal.returns-in-Distinct
+returns-in-Distinct g c calls =
+    let w = seen g.V.TableView.documents g.V.TableView.indexes g.V.TableView.entries c.args.world.now in
+    rw c.in-Distinct.is (c.distinct.ensures calls)
+
+pub returns-in-Slice : goal.returns-in-Slice
+returns-in-Slice g c calls =
+    let w = seen g.V.TableView.documents g.V.TableView.indexes g.V.TableView.entries c.args.world.now in
+    rw c.in-Slice.is (c.slice_rule.ensures calls)

@@ -21,3 +21,23 @@ pub returns-in-Map : goal.returns-in-Map
 returns-in-Map g c calls h =
     let w = seen g.V.TableView.documents g.V.TableView.indexes g.V.TableView.entries c.args.world.now in
     rw c.in-Map.is (c.map.ensures calls h (all_chosen w c.args.opts.now))
+
+pub returns-in-Filter : goal.returns-in-Filter
+returns-in-Filter g c calls h =
+    let w = seen g.V.TableView.documents g.V.TableView.indexes g.V.TableView.entries c.args.world.now in
+    rw c.in-Filter.is (c.filter.ensures calls h)
+
+pub returns-in-OffsetsOf : goal.returns-in-OffsetsOf
+returns-in-OffsetsOf g c calls h =
+    let w = seen g.V.TableView.documents g.V.TableView.indexes g.V.TableView.entries c.args.world.now in
+    rw c.in-OffsetsOf.is (c.offsets_of.ensures calls h (all_chosen w c.args.opts.now))
+
+pub returns-in-ConcatMap : goal.returns-in-ConcatMap
+returns-in-ConcatMap g c calls h =
+    let w = seen g.V.TableView.documents g.V.TableView.indexes g.V.TableView.entries c.args.world.now in
+    rw c.in-ConcatMap.is (c.concat_map.ensures calls h (all_chosen w c.args.opts.now))
+
+pub returns-in-OrderBy : goal.returns-in-OrderBy
+returns-in-OrderBy g c calls h =
+    let w = seen g.V.TableView.documents g.V.TableView.indexes g.V.TableView.entries c.args.world.now in
+    rw c.in-OrderBy.is (c.order_by_rule.ensures calls h)

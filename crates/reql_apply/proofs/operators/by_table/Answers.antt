@@ -36,3 +36,13 @@ pub returns-in-Status : goal.returns-in-Status
 returns-in-Status g c calls =
     let w = seen g.V.TableView.documents g.V.TableView.indexes g.V.TableView.entries c.args.world.now in
     rw c.in-Status.is (c.one-in-Status.ensures w _ (c.status.ensures calls (all_chosen w c.args.opts.now)))
+
+pub returns-in-GetAll : goal.returns-in-GetAll
+returns-in-GetAll g c calls =
+    let w = seen g.V.TableView.documents g.V.TableView.indexes g.V.TableView.entries c.args.world.now in
+    rw c.in-GetAll.is (c.get_all_rule.ensures calls)
+
+pub returns-in-IndexStatuses : goal.returns-in-IndexStatuses
+returns-in-IndexStatuses g c calls =
+    let w = seen g.V.TableView.documents g.V.TableView.indexes g.V.TableView.entries c.args.world.now in
+    rw c.in-IndexStatuses.is (c.array-in-IndexStatuses.ensures w _ (c.index_statuses_rule.ensures calls (all_chosen w c.args.opts.now)))
