@@ -1,122 +1,118 @@
-// Trees: neighbours of a key, ranges, and the steps of a look.
-use reql_datum::{Datum, Items, Memory, Whole};
+// Trees in which each key is its own value: neighbours, ranges, counts and shares.
+use reql_datum::{Datum, Items, Memory};
 use reql_ptree::{Brand, Steps, Tree};
+use rows_reader::{list, number, shown, shown_or_none};
 use std::alloc::Global;
-use std::test::Fail;
 
-fn number(n: u32) -> Datum {
-    match Whole::new(i64::from(n)) {
-        Some(whole) => Datum::Num(whole),
-        None => Datum::Null,
+fn with_key(tree: &Tree, key: &Datum, steps: &mut Steps<Brand>) -> Result<Tree, Memory> {
+    Ok(tree.put(key.copy()?, key.copy()?, steps)?)
+}
+
+/// Puts a key as its own value in place.
+pub(crate) fn put_key(
+    tree: &mut Tree,
+    key: &Datum,
+    steps: &mut Steps<Brand>,
+) -> Result<(), Memory> {
+    tree.put_own(key.copy()?, key.copy()?, steps)?;
+    Ok(())
+}
+
+// A list of one key removes it, any other document is put.
+fn changed(tree: &Tree, change: &Datum, steps: &mut Steps<Brand>) -> Option<Tree> {
+    match list(change) {
+        Some(keys) => tree.remove(keys.at(0)?, steps).ok(),
+        None => with_key(tree, change, steps).ok(),
     }
 }
 
-fn told(d: &Datum) -> i64 {
-    match d {
-        Datum::Num(n) => n.get(),
-        _ => -1,
+fn tree_of(alloc: Global, changes: &Items, steps: &mut Steps<Brand>) -> Option<Tree> {
+    let mut tree = Tree::new(alloc);
+    for change in changes.as_slice() {
+        tree = changed(&tree, change, steps)?;
     }
+    Some(tree)
 }
 
-fn key_of(pair: Option<(&Datum, &Datum)>) -> Option<i64> {
+fn key_of<'a>(pair: Option<(&'a Datum, &'a Datum)>) -> Option<&'a Datum> {
     match pair {
-        Some((key, _)) => Some(told(key)),
+        Some((key, _)) => Some(key),
         None => None,
     }
 }
 
-fn ends(items: &Items) -> (usize, Option<i64>, Option<i64>) {
-    let all = items.as_slice();
-    (all.len(), all.first().map(told), all.last().map(told))
+fn is_true(args: &Items, place: usize) -> Option<bool> {
+    Some(matches!(args.at(place)?, Datum::Bool(true)))
 }
 
-// Each number as its own value.
-fn filled(alloc: Global, keys: &[u32], steps: &mut Steps<Brand>) -> Result<Tree, Memory> {
-    let mut tree = Tree::new(alloc);
-    for key in keys {
-        tree = tree.put(number(*key), number(*key), steps)?;
+fn looked(alloc: Global, call: &str, tree: &Tree, args: &Items) -> Option<String> {
+    let mut steps = Steps::start();
+    let (key, past) = (args.at(1)?, is_true(args, 2)?);
+    match call {
+        "next_from" => shown_or_none(alloc, key_of(tree.next_from(key, past, &mut steps))),
+        "prev_from" => shown_or_none(alloc, key_of(tree.prev_from(key, past, &mut steps))),
+        "count_below" => format!(in alloc; "{}", tree.count_below(key, past, &mut steps)).ok(),
+        _ => None,
     }
-    Ok(tree)
 }
 
-fn added(tree: &mut Tree, key: u32, steps: &mut Steps<Brand>) -> Result<(), Memory> {
-    tree.put_own(number(key), number(key), steps)?;
-    Ok(())
+fn most(args: &Items) -> Option<u64> {
+    u64::try_from(number(args.at(5)?)?).ok()
 }
 
-// The numbers below 15000, in no order: 15000 and 7919 have no common divisor.
-fn scattered(alloc: Global, steps: &mut Steps<Brand>) -> Result<Tree, Memory> {
-    let mut tree = Tree::new(alloc);
-    let mut key = 0u32;
-    for _ in 0..15000u32 {
-        added(&mut tree, key, steps)?;
-        key = key.wrapping_add(7919) % 15000;
-    }
-    Ok(tree)
-}
-
-// How many of the numbers below 15000 are found, and the most steps that one took.
-fn looked_up(tree: &Tree) -> (u32, u64) {
-    let mut hits = 0u32;
-    let mut most = 0u64;
-    for i in 0..15000u32 {
-        let mut steps = Steps::start();
-        if tree.get(&number(i), &mut steps).is_some() {
-            hits = hits.wrapping_add(1);
+fn ranged(call: &str, tree: &Tree, args: &Items) -> Option<Items> {
+    let mut steps = Steps::start();
+    let (low, low_open) = (args.at(1)?, is_true(args, 2)?);
+    let (high, high_open) = (args.at(3)?, is_true(args, 4)?);
+    match call {
+        "range" => tree.range(low, low_open, high, high_open, &mut steps),
+        "range_first" => {
+            tree.range_first(low, low_open, high, high_open, most(args)?, &mut steps)
         }
-        most = most.max(steps.count());
+        "range_last" => tree.range_last(low, low_open, high, high_open, most(args)?, &mut steps),
+        _ => return None,
     }
-    (hits, most)
+    .ok()
 }
 
-#[test]
-fn neighbours_of_a_key(rt: HostRuntime) -> Result<(), Fail> {
+// How many keys, and all values.
+fn whole(alloc: Global, tree: &Tree) -> Option<String> {
     let mut steps = Steps::start();
-    let tree = filled(rt.alloc(), &[2, 3, 1], &mut steps)?;
-    let two = number(2);
-    let before = (
-        key_of(tree.prev_from(&two, false, &mut steps)),
-        key_of(tree.prev_from(&two, true, &mut steps)),
-        key_of(tree.prev_from(&number(1), true, &mut steps)),
+    let values = tree.range(&Datum::Low, false, &Datum::High, false, &mut steps);
+    let told = shown(alloc, &Datum::List(values.ok()?))?;
+    format!(in alloc; "{} keys {told}", tree.len()).ok()
+}
+
+fn shared(alloc: Global, args: &Items) -> Option<String> {
+    let mut steps = Steps::start();
+    let mut tree = tree_of(alloc, list(args.at(0)?)?, &mut steps)?;
+    let share = tree.share().ok()?;
+    put_key(&mut tree, args.at(1)?, &mut steps).ok()?;
+    let without = tree.remove(args.at(2)?, &mut steps).ok()?;
+    let (share, tree, without) = (
+        whole(alloc, &share)?,
+        whole(alloc, &tree)?,
+        whole(alloc, &without)?,
     );
-    let after = (
-        key_of(tree.next_from(&two, false, &mut steps)),
-        key_of(tree.next_from(&two, true, &mut steps)),
-        key_of(tree.next_from(&number(3), true, &mut steps)),
-    );
-    assert_eq!(rt; before, (Some(2), Some(1), None));
-    assert_eq!(rt; after, (Some(2), Some(3), None));
-    Ok(())
+    format!(in alloc; "share {share}, put {tree}, removed {without}").ok()
 }
 
-#[test]
-fn a_look_at_15000_keys_takes_at_most_28_steps(rt: HostRuntime) -> Result<(), Fail> {
+fn found(alloc: Global, call: &str, args: &Items) -> Option<String> {
     let mut steps = Steps::start();
-    let tree = scattered(rt.alloc(), &mut steps)?;
-    let (hits, most) = looked_up(&tree);
-    assert_eq!(rt; (tree.len(), hits, most <= 28), (15000, 15000, true));
-    let all = tree.range(&number(0), false, &number(15000), true, &mut steps)?;
-    assert_eq!(rt; ends(&all), (15000, Some(0), Some(14999)));
-    Ok(())
+    let tree = tree_of(alloc, list(args.at(0)?)?, &mut steps)?;
+    if let Some(told) = looked(alloc, call, &tree, args) {
+        return Some(told);
+    }
+    shown(alloc, &Datum::List(ranged(call, &tree, args)?))
 }
 
-#[test]
-fn ranges_counts_and_shares(rt: HostRuntime) -> Result<(), Fail> {
-    let mut steps = Steps::start();
-    let mut tree = filled(rt.alloc(), &[4, 1, 5, 3, 2], &mut steps)?;
-    let kept = tree.share()?;
-    added(&mut tree, 6, &mut steps)?;
-    let gone = tree.remove(&number(3), &mut steps)?;
-    assert_eq!(rt; (kept.len(), tree.len(), gone.len()), (5, 6, 5));
-    let (low, high) = (number(2), number(5));
-    let open = kept.range(&low, true, &high, true, &mut steps)?;
-    let first = kept.range_first(&low, false, &high, false, 3, &mut steps)?;
-    let last = gone.range_last(&low, false, &high, false, 2, &mut steps)?;
-    assert_eq!(rt; ends(&open), (2, Some(3), Some(4)));
-    assert_eq!(rt; ends(&first), (3, Some(2), Some(4)));
-    assert_eq!(rt; ends(&last), (2, Some(5), Some(4)));
-    let below = kept.count_below(&low, false, &mut steps);
-    let through = kept.count_below(&low, true, &mut steps);
-    assert_eq!(rt; (below, through), (1, 2));
-    Ok(())
+/// Of a tree that is made by keys, where [key] removes one: `next_from` and `prev_from` a key, which is
+/// itself left out where the last argument is true; `count_below` a key, which counts itself there;
+/// `range` from an end to an end, each with whether it is open, and `range_first` and `range_last` of
+/// it, at most so many; `shared`, a share, then the tree with a key put in place, then that without one.
+pub(crate) fn tree_call(alloc: Global, call: &str, args: &Items) -> Option<String> {
+    match call {
+        "shared" => shared(alloc, args),
+        _ => found(alloc, call, args),
+    }
 }
