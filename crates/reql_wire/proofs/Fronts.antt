@@ -73,7 +73,7 @@ number_of_4 bytes = omega arith
 bytes_8 : (bytes : List ℕ) → IsBytes bytes → 8 ≤ length bytes → little_bytes 8 (little_number 8 bytes) ≡ take 8 bytes
 bytes_8 bytes each h = le_bytes_8 (take 8 bytes) (little_number 8 bytes) (length-take-le 8 bytes h) (bytes_take 8 bytes each) (sym (little_from-take 0 8 8 bytes (omega arith)) ∙ number_of_8 (take 8 bytes))
 
-bytes_4 : (bytes : List ℕ) → IsBytes bytes → 4 ≤ length bytes → little_bytes 4 (little_number 4 bytes) ≡ take 4 bytes
+pub bytes_4 : (bytes : List ℕ) → IsBytes bytes → 4 ≤ length bytes → little_bytes 4 (little_number 4 bytes) ≡ take 4 bytes
 bytes_4 bytes each h = le_bytes_4 (take 4 bytes) (little_number 4 bytes) (length-take-le 4 bytes h) (bytes_take 4 bytes each) (sym (little_from-take 0 4 4 bytes (omega arith)) ∙ number_of_4 (take 4 bytes))
 
 -- long bytes begin with the header that they have
@@ -84,7 +84,7 @@ header_there bytes each h =
     (bytes_8 bytes each (omega arith))
     (bytes_4 (drop 8 bytes) (bytes_drop 8 bytes each) (omega (arith, length-drop 8 bytes)))
 
-chosen : {A : Type 0} (b : Bool) (x y z : A) → cond b x y ≡ z → ((b ≡ true) × (x ≡ z)) ⊎ ((b ≡ false) × (y ≡ z))
+pub chosen : {A : Type 0} (b : Bool) (x y z : A) → cond b x y ≡ z → ((b ≡ true) × (x ≡ z)) ⊎ ((b ≡ false) × (y ≡ z))
 chosen true x y z h = inl (refl, h)
 chosen false x y z h = inr (refl, h)
 

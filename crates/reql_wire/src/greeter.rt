@@ -1,16 +1,19 @@
-ghost use Rattle.std.specs.Prelude.{◌≡◌, ◌++◌, [], length, nat_lt, take, if◌then◌else◌};
-ghost use Rattle.reql_wire.specs.Greeting.{accepted, refusal, Answers};
+ghost use Rattle.std.specs.Prelude.{◌≡◌, ◌++◌, [], length, IfOk};
+ghost use Rattle.reql_wire.specs.Greeting.{Answers, Greets, accepted, kept, refusal};
 
+use crate::handshake::{LONGEST_KEY, verdict_of};
+use reql_memory::Memory;
+use std::alloc::Global;
 use std::marker::Model;
 
-/// The bytes of the greeting: version 0x400c2d20, a key of 0 bytes, protocol 0x7e6970c7, each a
-/// little-endian number of 4 bytes (RethinkDB's guide on writing drivers).
-const GREETING: [u8; 12] = [0x20, 0x2d, 0x0c, 0x40, 0, 0, 0, 0, 0xc7, 0x70, 0x69, 0x7e];
+/// The bytes of the greeting with the longest key: its version, the length of the key, the key, and
+/// the protocol.
+const LONGEST_GREETING: usize = 12 + LONGEST_KEY;
 
 /// What the bytes given so far are as a greeting.
 #[derive(Clone, Copy, Debug, PartialEq, Eq)]
 pub enum Greeting {
-    /// They are fewer than a greeting's.
+    /// They begin a greeting, and are none yet.
     More,
     /// They begin with the greeting, which ends after so many bytes of the piece given now.
     Accepted { used: usize },
@@ -18,11 +21,18 @@ pub enum Greeting {
     Refused(GreetFault),
 }
 
-/// Why a greeting is refused.
+/// Why a greeting is refused. Each is told at the last byte of the field that it speaks of, the
+/// first such field alone.
 #[derive(Clone, Copy, Debug, PartialEq, Eq)]
 pub enum GreetFault {
-    /// It is another greeting than the one that is built.
-    NotBuilt,
+    /// The version isn't V0_4, 0x400c2d20.
+    BadVersion { got: u32 },
+    /// The key that is announced has more than 1024 bytes.
+    KeyTooLong { len: u32 },
+    /// It is another key.
+    BadKey,
+    /// The protocol isn't JSON, 0x7e6970c7.
+    BadProtocol { got: u32 },
 }
 
 impl GreetFault {
@@ -31,7 +41,10 @@ impl GreetFault {
         ensures { result.now ≡ refusal self }
     {
         match self {
-            GreetFault::NotBuilt => b"ERROR: not built yet\0",
+            GreetFault::BadVersion { .. } => b"ERROR: unsupported protocol version\0",
+            GreetFault::KeyTooLong { .. } => b"ERROR: authorization key too long\0",
+            GreetFault::BadKey => b"ERROR: incorrect authorization key\0",
+            GreetFault::BadProtocol { .. } => b"ERROR: unsupported wire protocol\0",
         }
     }
 }
@@ -43,61 +56,73 @@ pub fn accepted_answer() -> &'static [u8]
     b"SUCCESS\0"
 }
 
-/// Takes a session's first bytes in any pieces, and says what they are as a greeting.
+/// Takes a session's first bytes in any pieces, and says what they are as a greeting by a key.
 ///
-/// Contracts see of it the list of the first 12 bytes that it was given, or of all that are fewer.
+/// Contracts see of it the key, and the list of the first 1036 bytes that it was given, or of all
+/// that are fewer. No greeting has more.
 #[derive(Drop)]
 pub struct Greeter {
-    bytes: [u8; 12],
-    count: usize,
+    key: Vec<u8>,
+    heard: Vec<u8>,
 }
 
 impl Model for Greeter {
-    ghost use Rattle.std.specs.Prelude.{ℕ, List, take, ◌≤◌};
+    ghost use Rattle.std.specs.Prelude.{◌≤◌, length, vec_capacity};
+    ghost use Rattle.reql_wire.specs.Greeting.{Listening, longest_greeting};
 
-    ghost Value = { List ℕ };
+    ghost Value = { Listening };
 
-    ghost view = { λ g. take g.count g.bytes };
+    ghost view = { λ g. record { key = g.key.items; heard = g.heard.items } };
 
-    ghost invariant = { λ g. g.count ≤ 12 };
+    ghost invariant = { λ g. (length g.heard.items ≤ longest_greeting)
+        × (longest_greeting ≤ vec_capacity g.heard) };
 }
 
 impl Greeter {
-    /// A greeter that was given nothing.
-    pub fn new() -> Greeter
-        ensures { result ≡ [] }
+    /// A greeter that was given nothing. A key of more than 1024 bytes is no greeting's: each key
+    /// that comes is refused then.
+    pub fn new(alloc: Global, key: &[u8]) -> Result<Greeter, Memory>
+        ensures { IfOk result (λ g. g ≡ record { key = key.now; heard = [] }) }
     {
-        Greeter {
-            bytes: [0; 12],
-            count: 0,
-        }
+        let key = key.to_vec(alloc)?;
+        let heard = Vec::with_capacity(alloc, LONGEST_GREETING)?;
+        Ok(Greeter { key, heard })
     }
 
     /// Gives it the next piece. It takes no memory.
     ///
-    /// From the 12th byte on the verdict stands: a piece that is given to a greeter that has
+    /// A verdict other than `More` stands from then on: a piece that is given to a greeter that has
     /// accepted is `Accepted` with none of its bytes used, and a refusal is given again.
     pub fn feed(&mut self, piece: &[u8]) -> Greeting
-        ensures keeps { self.new ≡ take 12 (self.old ++ piece.now) }
-        ensures answers { Answers self.old piece.now result }
+        ensures keeps { self.new ≡ record {
+          key = self.old.key;
+          heard = kept (self.old.heard ++ piece.now);
+        } }
+        ensures answers { Answers self.old.key self.old.heard piece.now result }
+        ensures waits { result ≡ Greeting.More → self.new.heard ≡ self.old.heard ++ piece.now }
     {
-        let used = piece.len().min(12 - self.count);
-        let end = self.count + used;
-        self.bytes[self.count..end].copy_from_slice(&piece[..used]);
-        self.count = end;
-        if end < 12 {
-            Greeting::More
-        } else if self.bytes == GREETING {
-            Greeting::Accepted { used }
-        } else {
-            Greeting::Refused(GreetFault::NotBuilt)
+        let before = self.heard.len();
+        let taken = piece.len().min(LONGEST_GREETING - before);
+        let Ok(()) = self.heard.extend_from_slice(&piece[..taken]) else {
+            unreachable!()
+        };
+        match verdict_of(&self.key, &self.heard) {
+            Greeting::Accepted { used } => Greeting::Accepted {
+                used: used.saturating_sub(before),
+            },
+            other => other,
         }
     }
 
     /// How many bytes it holds of a greeting that isn't whole yet.
     pub fn held(&self) -> usize
-        ensures { result ≡ (if nat_lt (length self.now) 12 then length self.now else 0) }
+        ensures waiting { Greets self.now.key self.now.heard Greeting.More →
+            result ≡ length self.now.heard }
+        ensures decided { (Greets self.now.key self.now.heard Greeting.More → ⊥) → result ≡ 0 }
     {
-        if self.count < 12 { self.count } else { 0 }
+        match verdict_of(&self.key, &self.heard) {
+            Greeting::More => self.heard.len(),
+            _ => 0,
+        }
     }
 }

@@ -1,16 +1,34 @@
-ghost use Rattle.std.specs.Prelude.{◌≡◌, ◌++◌, ℕ, List, take};
-ghost use Rattle.reql_wire.specs.Greeting.{Greets};
+ghost use Rattle.std.specs.Prelude.{◌≡◌, ◌≤◌, ◌<◌, ◌+◌, ◌++◌, ℕ, List, length, drop};
+ghost use Rattle.reql_wire.specs.Frames.{IsBytes};
+ghost use Rattle.reql_wire.specs.Greeting.{Greets, greeting_by, kept, longest_greeting, longest_key};
 ghost use Rattle.reql_wire.specs.declared.greeter.Greeting.{Greeting};
+ghost use Rattle.reql_wire.specs.declared.greeter.Greeting.TheVariants.{Accepted, More};
 
-/// The greeter's 12 bytes are enough: what they and a piece are as a greeting, all bytes are.
+/// What a greeter keeps is enough: what it and a piece are as a greeting, all bytes are.
 pub fn greeting_is_cut()
-    ensures kept { (bytes piece : List ℕ) →
-        take 12 (take 12 bytes ++ piece) ≡ take 12 (bytes ++ piece) }
-    ensures verdict { (bytes piece : List ℕ) (verdict : Greeting) →
-        Greets (take 12 bytes ++ piece) verdict → Greets (bytes ++ piece) verdict }
+    ensures kept { (bytes piece : List ℕ) → kept (kept bytes ++ piece) ≡ kept (bytes ++ piece) }
+    ensures verdict { (key bytes piece : List ℕ) (verdict : Greeting) →
+        Greets key (kept bytes ++ piece) verdict → Greets key (bytes ++ piece) verdict }
+    ensures more { (key bytes : List ℕ) → Greets key bytes More → length bytes < longest_greeting }
 {}
 
 /// Bytes have one verdict as a greeting.
 pub fn one_verdict()
-    ensures { (bytes : List ℕ) (a b : Greeting) → Greets bytes a → Greets bytes b → a ≡ b }
+    ensures { (key bytes : List ℕ) (a b : Greeting) →
+        Greets key bytes a → Greets key bytes b → a ≡ b }
+{}
+
+/// A verdict stands when more bytes come.
+pub fn verdict_stands()
+    ensures { (key bytes more : List ℕ) (verdict : Greeting) → (verdict ≡ More → ⊥) →
+        Greets key bytes verdict → Greets key (bytes ++ more) verdict }
+{}
+
+/// The greeting by a key is accepted, whatever follows it, and no other is.
+pub fn one_greeting_by_a_key()
+    ensures accepted { (key rest : List ℕ) → length key ≤ longest_key →
+        Greets key (greeting_by key ++ rest) (Accepted (12 + length key)) }
+    ensures spelled { (key bytes : List ℕ) (used : ℕ) → IsBytes bytes →
+        Greets key bytes (Accepted used) →
+        (used ≡ 12 + length key) × (bytes ≡ greeting_by key ++ drop used bytes) }
 {}

@@ -10,6 +10,7 @@ mod frame;
 mod frame_laws;
 mod greeter;
 mod greeting_laws;
+mod handshake;
 mod reading;
 #[cfg(test)]
 mod tests;
@@ -19,6 +20,7 @@ pub use feeder::Feeder;
 pub use frame::{Frame, WireFault};
 pub use frame_laws::{frames_are_once, front_decides, front_of_spelling, one_reading, spelled};
 pub use greeter::{GreetFault, Greeter, Greeting, accepted_answer};
-pub use greeting_laws::{greeting_is_cut, one_verdict};
+pub use greeting_laws::{greeting_is_cut, one_greeting_by_a_key, one_verdict, verdict_stands};
+pub use handshake::LONGEST_KEY;
 pub use reading::HEADER_BYTES;
 pub use writing::{FrameFault, put_frame};

@@ -1,4 +1,6 @@
 use crate::{Feeder, Frame, GreetFault, Greeter, Greeting, WireFault, accepted_answer, put_frame};
+use std::alloc::Global;
+use std::process::Abort;
 use std::test::Fail;
 
 // Token 0x0807060504030201 with the body `ab`, and token 5 with none.
@@ -63,29 +65,145 @@ fn long_bodies_and_many_frames_take_linear_time(rt: HostRuntime) -> Result<(), F
     Ok(())
 }
 
+// The key that is wanted, what comes, at which byte that is decided, and why it is refused.
+const GREETINGS: [(&[u8], &[u8], usize, Option<GreetFault>); 12] = [
+    (
+        b"",
+        b"\x20\x2d\x0c\x40\0\0\0\0\xc7\x70\x69\x7e\x01\x02",
+        12,
+        None,
+    ),
+    (
+        b"hunter2",
+        b"\x20\x2d\x0c\x40\x07\0\0\0hunter2\xc7\x70\x69\x7e\x01\x02",
+        19,
+        None,
+    ),
+    (
+        b"",
+        b"GET / HTTP/1.1",
+        4,
+        Some(GreetFault::BadVersion { got: 0x2054_4547 }),
+    ),
+    (
+        b"hunter2",
+        b"\x3e\xe8\x75\x5f\x07\0\0\0hunter2\xc7\x70\x69\x7e",
+        4,
+        Some(GreetFault::BadVersion { got: 0x5f75_e83e }),
+    ),
+    (
+        b"hunter2",
+        b"\x20\x2d\x0c\x40\x01\x04\0\0hunter2",
+        8,
+        Some(GreetFault::KeyTooLong { len: 1025 }),
+    ),
+    (
+        b"hunter2",
+        b"\x20\x2d\x0c\x40\x07\0\0\0hunter3\xc7\x70\x69\x7e",
+        15,
+        Some(GreetFault::BadKey),
+    ),
+    (
+        b"hunter2",
+        b"\x20\x2d\x0c\x40\x06\0\0\0hunter\xc7\x70\x69\x7e",
+        14,
+        Some(GreetFault::BadKey),
+    ),
+    (
+        b"hunter2",
+        b"\x20\x2d\x0c\x40\x08\0\0\0hunter22\xc7\x70\x69\x7e",
+        16,
+        Some(GreetFault::BadKey),
+    ),
+    (
+        b"hunter2",
+        b"\x20\x2d\x0c\x40\0\0\0\0\xc7\x70\x69\x7e",
+        8,
+        Some(GreetFault::BadKey),
+    ),
+    (
+        b"",
+        b"\x20\x2d\x0c\x40\x01\0\0\0x\xc7\x70\x69\x7e",
+        9,
+        Some(GreetFault::BadKey),
+    ),
+    (
+        b"",
+        b"\x20\x2d\x0c\x40\0\0\0\0\xc7\x70\x69\x7f\x01\x02",
+        12,
+        Some(GreetFault::BadProtocol { got: 0x7f69_70c7 }),
+    ),
+    (
+        b"hunter2",
+        b"\x20\x2d\x0c\x40\x07\0\0\0hunter2\x41\xfc\x1f\x27",
+        19,
+        Some(GreetFault::BadProtocol { got: 0x271f_fc41 }),
+    ),
+];
+
+const REFUSALS: [(GreetFault, &[u8]); 4] = [
+    (
+        GreetFault::BadVersion { got: 1 },
+        b"ERROR: unsupported protocol version\0",
+    ),
+    (
+        GreetFault::KeyTooLong { len: 1025 },
+        b"ERROR: authorization key too long\0",
+    ),
+    (GreetFault::BadKey, b"ERROR: incorrect authorization key\0"),
+    (
+        GreetFault::BadProtocol { got: 1 },
+        b"ERROR: unsupported wire protocol\0",
+    ),
+];
+
+fn verdict(used: usize, fault: Option<GreetFault>) -> Greeting {
+    match fault {
+        Some(fault) => Greeting::Refused(fault),
+        None => Greeting::Accepted { used },
+    }
+}
+
+// The bytes in two pieces, cut at each place.
+fn expect_under_every_cut(
+    rt: &impl Abort,
+    alloc: Global,
+    key: &[u8],
+    bytes: &[u8],
+    decided: usize,
+    fault: Option<GreetFault>,
+) -> Result<(), Fail> {
+    for cut in 0..=bytes.len() {
+        let mut greeter = Greeter::new(alloc, key)?;
+        let first = (greeter.feed(&bytes[..cut]), greeter.held());
+        let second = (greeter.feed(&bytes[cut..]), greeter.held());
+        let told = if cut < decided {
+            (Greeting::More, cut)
+        } else {
+            (verdict(decided, fault), 0)
+        };
+        let after = (verdict(decided.saturating_sub(cut), fault), 0);
+        assert_eq!(rt; (first, second), (told, after));
+    }
+    Ok(())
+}
+
 #[test]
 fn greetings_are_known_under_every_cut(rt: HostRuntime) -> Result<(), Fail> {
-    let refused = Greeting::Refused(GreetFault::NotBuilt);
-    let rows: [(&[u8; 14], bool); 3] = [
-        (b"\x20\x2d\x0c\x40\0\0\0\0\xc7\x70\x69\x7e\x01\x02", true),
-        (b"\x20\x2d\x0c\x40\0\0\0\0\xc7\x70\x69\x7f\x01\x02", false),
-        (b"GET / HTTP/1.1", false),
-    ];
-    for (bytes, built) in rows {
-        for cut in 0..12usize {
-            let mut greeter = Greeter::new();
-            let first = (greeter.feed(&bytes[..cut]), greeter.held());
-            let second = (greeter.feed(&bytes[cut..]), greeter.held());
-            let verdict = if built {
-                Greeting::Accepted { used: 12 - cut }
-            } else {
-                refused
-            };
-            assert_eq!(rt; (first, second), ((Greeting::More, cut), (verdict, 0)));
-        }
+    let alloc = rt.alloc();
+    for (key, bytes, decided, fault) in GREETINGS {
+        expect_under_every_cut(&rt, alloc, key, bytes, decided, fault)?;
     }
-    let texts = (accepted_answer(), GreetFault::NotBuilt.answer());
-    let expected: (&[u8], &[u8]) = (b"SUCCESS\0", b"ERROR: not built yet\0");
-    assert_eq!(rt; texts, expected);
+    let key = vec![in alloc; b'k'; 1025]?;
+    let mut long = b"\x20\x2d\x0c\x40\0\x04\0\0".to_vec(alloc)?;
+    long.extend_from_slice(&key[..1024])?;
+    long.extend_from_slice(b"\xc7\x70\x69\x7e")?;
+    expect_under_every_cut(&rt, alloc, &key[..1024], &long, 1036, None)?;
+    expect_under_every_cut(&rt, alloc, &key, &long, 1032, Some(GreetFault::BadKey))?;
+    for (fault, text) in REFUSALS {
+        assert_eq!(rt; fault.answer(), text);
+    }
+    let accepted: &[u8] = b"SUCCESS\0";
+    assert_eq!(rt; accepted_answer(), accepted);
     Ok(())
 }

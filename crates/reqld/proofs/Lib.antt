@@ -3,4 +3,5 @@ pub mod Summaries
 pub mod Joined
 pub mod Turning
 pub mod Hearing
+pub mod Asking
 pub mod Whole

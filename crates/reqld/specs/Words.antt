@@ -1,7 +1,8 @@
 -- What the words of the command line ask for.
-use Rattle.std.specs.Prelude.{◌≡◌, ℕ, List, [], ◌∷◌, length, take, drop, Option, Some, None, Bool, ◌&&◌, ◌||◌, ◌==◌, nat_le, cond, codes}
+use Rattle.std.specs.Prelude.{◌≡◌, ℕ, List, [], ◌∷◌, length, take, drop, Option, Some, None, is_none, unwrap_or, Bool, ◌&&◌, ◌||◌, ◌==◌, nat_le, cond, codes}
 use Rattle.std.specs.List.{list_all}
 use Rattle.std.specs.Str.{bytes_eq}
+use Rattle.reql_wire.specs.Greeting.{longest_key}
 use Rattle.reqld.specs.declared.words.Command.{Command}
 use Rattle.reqld.specs.declared.words.Command.TheVariants as says
 use Rattle.reqld.specs.declared.words.Wanted.{Wanted}
@@ -19,9 +20,9 @@ is_name s = nat_le 1 (length s) && (nat_le (length s) 127 && list_all is_name_by
 abbrev pub table_in : List ℕ → Option (List ℕ)
 table_in word = cond (bytes_eq (take 5 word) (codes "test.") && is_name (drop 5 word)) (Some (drop 5 word)) None
 
--- what the words ask for
+-- what the words ask for; a session is served by a key, on a table
 pub data Asks : Type 0 where
-  Serve : List ℕ → Asks
+  Serve : List ℕ → List ℕ → Asks
   Help : Asks
   Version : Asks
   Wrong : List ℕ → Asks
@@ -32,28 +33,48 @@ abbrev pub ends_in : Asks → List (List ℕ) → Asks
 ends_in asks [] = asks
 ends_in asks (w ∷ ws) = Wrong w
 
-abbrev pub serves : List ℕ → Option (List ℕ) → List (List ℕ) → Asks
-serves word None ws = Wrong word
-serves word (Some name) ws = ends_in (Serve name) ws
+-- whether a word is an option that has no value yet
+abbrev pub is_first : List ℕ → List ℕ → Option (List ℕ) → Bool
+is_first word name value = bytes_eq word name && is_none value
 
-abbrev pub asks_table : List (List ℕ) → Asks
-asks_table [] = Missing wanted.TableName
-asks_table (w ∷ ws) = serves w (table_in w) ws
+-- the words end at an option whose value is wanted
+abbrev pub lacks_value : List ℕ → Option (List ℕ) → Option (List ℕ) → Asks
+lacks_value word key table =
+    cond (is_first word (codes "--key") key) (Missing wanted.Key)
+    (cond (is_first word (codes "--table") table) (Missing wanted.TableName) (Wrong word))
 
-abbrev pub asks_option : List (List ℕ) → Asks
-asks_option [] = Missing wanted.TableOption
-asks_option (w ∷ ws) = cond (bytes_eq w (codes "--table")) (asks_table ws) (Wrong w)
+-- all options are said; without a key it is empty
+abbrev pub serves : Option (List ℕ) → Option (List ℕ) → Asks
+serves key None = Missing wanted.TableOption
+serves key (Some table) = Serve (unwrap_or key []) table
+
+-- a key has at most 1024 bytes, and a table is test.NAME
+abbrev pub with_key : List ℕ → (Option (List ℕ) → Asks) → Asks
+with_key word rest = cond (nat_le (length word) longest_key) (rest (Some word)) (Wrong word)
+
+abbrev pub with_table : List ℕ → Option (List ℕ) → (Option (List ℕ) → Asks) → Asks
+with_table word None rest = Wrong word
+with_table word (Some name) rest = rest (Some name)
+
+-- options in any order, each at most once, and each with the next word as its value, where these
+-- are the values so far
+abbrev pub asks_options : List (List ℕ) → Option (List ℕ) → Option (List ℕ) → Asks
+asks_options [] key table = serves key table
+asks_options (w ∷ []) key table = lacks_value w key table
+asks_options (w ∷ (v ∷ ws)) key table =
+    cond (is_first w (codes "--key") key) (with_key v (λ k. asks_options ws k table))
+    (cond (is_first w (codes "--table") table) (with_table v (table_in v) (asks_options ws key)) (Wrong w))
 
 abbrev pub asks : List (List ℕ) → Asks
 asks [] = Missing wanted.Command
 asks (w ∷ ws) =
-    cond (bytes_eq w (codes "stdio")) (asks_option ws)
+    cond (bytes_eq w (codes "stdio")) (asks_options ws None None)
     (cond (bytes_eq w (codes "--help")) (ends_in Help ws)
     (cond (bytes_eq w (codes "--version")) (ends_in Version ws) (Wrong w)))
 
 -- a command says what the words ask for
 abbrev pub Says : Asks → Command → Type 0
-Says a (says.Serve table) = a ≡ Serve table.now
+Says a (says.Serve key table) = a ≡ Serve key.now table.now
 Says a says.Help = a ≡ Help
 Says a says.Version = a ≡ Version
 Says a (says.Wrong word) = a ≡ Wrong word.now

@@ -1,5 +1,6 @@
 // A session before its first frame: its greeting.
 ghost use Rattle.std.specs.Prelude.{◌≡◌, ◌<◌, [], length};
+ghost use Rattle.reql_wire.specs.Greeting.{Greets};
 ghost use Rattle.reqld.specs.Greeted.{Accepting, GreetsWith, Hears, Refusing};
 
 use crate::ending::End;
@@ -19,7 +20,7 @@ pub enum Greeted {
 enum Heard {
     More,
     Accepted,
-    Refused,
+    Refused(GreetFault),
     Ended(End),
 }
 
@@ -27,10 +28,11 @@ enum Heard {
 // first frame.
 fn hear<L: Link>(link: &mut L, greeter: &mut Greeter, feeder: &mut Feeder, buf: &mut [u8]) -> Heard
     requires room { 0 < length buf.old }
-    requires short { length greeter.old < 12 }
+    requires short { Greets greeter.old.key greeter.old.heard Greeting.More }
     requires none { feeder.old.held ≡ [] }
     ensures hears { Hears (L.tape link.old) (L.tape link.new) greeter.old greeter.new
         feeder.new.held result }
+    ensures key { greeter.new.key ≡ greeter.old.key }
     ensures limit { feeder.new.limit ≡ feeder.old.limit }
 {
     match link.recv(buf) {
@@ -40,7 +42,7 @@ fn hear<L: Link>(link: &mut L, greeter: &mut Greeter, feeder: &mut Feeder, buf: 
                 Ok(()) => Heard::Accepted,
                 Err(_) => Heard::Ended(End::Memory),
             },
-            Greeting::Refused(GreetFault::NotBuilt) => Heard::Refused,
+            Greeting::Refused(fault) => Heard::Refused(fault),
         },
         Recv::Idle => Heard::More,
         Recv::End => {
@@ -68,13 +70,13 @@ fn accept<L: Link>(link: &mut L, left: u64) -> Greeted
     }
 }
 
-fn refuse<L: Link>(link: &mut L, left: u64) -> Greeted
-    ensures { Refusing (L.tape link.old) (L.tape link.new) left result }
+fn refuse<L: Link>(link: &mut L, fault: GreetFault, left: u64) -> Greeted
+    ensures { Refusing (L.tape link.old) (L.tape link.new) fault left result }
 {
     if left == 0 {
         return Greeted::Ended(End::Worn);
     }
-    if send_all(link, GreetFault::NotBuilt.answer()) {
+    if send_all(link, fault.answer()) {
         Greeted::Ended(End::Refused)
     } else {
         Greeted::Ended(End::WriteFault)
@@ -83,18 +85,25 @@ fn refuse<L: Link>(link: &mut L, left: u64) -> Greeted
 
 /// Receives and answers a greeting, in at most so many turns: one for each recv, and one for the
 /// answer.
-pub fn greet<L: Link>(link: &mut L, feeder: &mut Feeder, buf: &mut [u8], turns: u64) -> Greeted
+pub fn greet<L: Link>(
+    link: &mut L,
+    greeter: &mut Greeter,
+    feeder: &mut Feeder,
+    buf: &mut [u8],
+    turns: u64,
+) -> Greeted
     requires room { 0 < length buf.old }
+    requires first { greeter.old.heard ≡ [] }
     requires none { feeder.old.held ≡ [] }
-    ensures greets { GreetsWith (L.tape link.old) (L.tape link.new) feeder.new.held turns result }
+    ensures greets { GreetsWith (L.tape link.old) (L.tape link.new) greeter.old.key feeder.new.held
+        turns result }
     ensures limit { feeder.new.limit ≡ feeder.old.limit }
 {
-    let mut greeter = Greeter::new();
     for used in 0..turns {
-        match hear(link, &mut greeter, feeder, buf) {
+        match hear(link, greeter, feeder, buf) {
             Heard::More => {}
             Heard::Accepted => return accept(link, turns - used - 1),
-            Heard::Refused => return refuse(link, turns - used - 1),
+            Heard::Refused(fault) => return refuse(link, fault, turns - used - 1),
             Heard::Ended(end) => return Greeted::Ended(end),
         }
     }

@@ -26,10 +26,12 @@ use top::run;
 use words::{Command, Wanted, command_of};
 
 const USAGE: &str = "\
-usage: reqld stdio --table test.NAME
+usage: reqld stdio [--key KEY] --table test.NAME
 
 Serves one session of RethinkDB's client protocol over standard input and output, on the table NAME
 of the database test, which is empty at first. NAME is 1 to 127 characters of A-Z, a-z, 0-9, _ and -.
+A client has to greet with the authorization key KEY, of at most 1024 bytes; without --key it is
+empty. The options come in any order, and the word after an option is its value.
 
   reqld --help       says this
   reqld --version    says which version this is
@@ -43,6 +45,7 @@ memory, 9 a request was too long.
 fn wanted(what: Wanted) -> &'static str {
     match what {
         Wanted::Command => "a command",
+        Wanted::Key => "a key after --key",
         Wanted::TableOption => "the option --table",
         Wanted::TableName => "a table, test.NAME, after --table",
     }

@@ -7,6 +7,8 @@ use std::test::Fail;
 
 const GREETING: &[u8] = b"\x20\x2d\x0c\x40\0\0\0\0\xc7\x70\x69\x7e";
 
+const KEYED: &[u8] = b"\x20\x2d\x0c\x40\x07\0\0\0hunter2\xc7\x70\x69\x7e";
+
 const INSERT: &str = "[1,[56,[[15,[\"docs\"]],{\"id\":1,\"n\":5}]]]";
 
 const GET: &str = "[1,[16,[[15,[\"docs\"]],1]]]";
@@ -266,24 +268,112 @@ fn input_that_ends_early_or_is_refused_has_its_status(rt: HostRuntime) -> Result
         (GREETING, b"\0\0\0\0\0\0\0\0\x01\0\0\x04", 9, b"SUCCESS\0"),
         (GREETING, b"\0\0\0\0\0\0\0\0\0\0\0\x04", 6, b"SUCCESS\0"),
         (
-            b"\x21\x2d\x0c\x40\0\0\0\0\xc7\x70\x69\x7e",
-            b"",
+            b"\x21\x2d\x0c\x40",
+            b"\0\0\0\0\xc7\x70\x69\x7e",
             7,
-            b"ERROR: not built yet\0",
+            b"ERROR: unsupported protocol version\0",
         ),
     ];
     for (front, rest, status, sent) in ends {
         let first = served(alloc, link_of(alloc, &[front, rest])?)?;
         expect(&rt, &first, status, sent, 0);
     }
-    let other = words(alloc, &["stdio", "--table", "test.a.b"])?;
-    expect(
-        &rt,
-        &run(alloc, &other, link_of(alloc, &[GREETING])?),
+    Ok(())
+}
+
+// The words, a client's input, the status and what is sent.
+const KEYS: [(&[&str], &[u8], u8, &[u8]); 15] = [
+    (
+        &["stdio", "--key", "hunter2", "--table", "test.docs"],
+        KEYED,
+        0,
+        b"SUCCESS\0",
+    ),
+    (
+        &["stdio", "--table", "test.docs", "--key", "hunter2"],
+        KEYED,
+        0,
+        b"SUCCESS\0",
+    ),
+    (
+        &["stdio", "--key", "--table", "--table", "test.docs"],
+        b"\x20\x2d\x0c\x40\x07\0\0\0--table\xc7\x70\x69\x7e",
+        0,
+        b"SUCCESS\0",
+    ),
+    (
+        &["stdio", "--key", "", "--table", "test.docs"],
+        GREETING,
+        0,
+        b"SUCCESS\0",
+    ),
+    (
+        &["stdio", "--key", "hunter", "--table", "test.docs"],
+        KEYED,
+        7,
+        b"ERROR: incorrect authorization key\0",
+    ),
+    (
+        &["stdio", "--table", "test.docs"],
+        KEYED,
+        7,
+        b"ERROR: incorrect authorization key\0",
+    ),
+    (
+        &["stdio", "--table", "test.docs"],
+        b"\x20\x2d\x0c\x40\x01\x04\0\0",
+        7,
+        b"ERROR: authorization key too long\0",
+    ),
+    (
+        &["stdio", "--table", "test.docs"],
+        b"\x20\x2d\x0c\x40\0\0\0\0\x41\xfc\x1f\x27",
+        7,
+        b"ERROR: unsupported wire protocol\0",
+    ),
+    (&["stdio"], GREETING, 2, b""),
+    (&["stdio", "--table", "test.a.b"], GREETING, 2, b""),
+    (&["stdio", "--key", "hunter2"], KEYED, 2, b""),
+    (
+        &["stdio", "--table", "test.docs", "--key"],
+        GREETING,
         2,
         b"",
-        0,
-    );
+    ),
+    (
+        &["stdio", "--table", "test.docs", "--table", "test.docs"],
+        GREETING,
+        2,
+        b"",
+    ),
+    (
+        &["stdio", "--key", "a", "--key", "a", "--table", "test.docs"],
+        GREETING,
+        2,
+        b"",
+    ),
+    (
+        &["stdio", "--port", "1", "--table", "test.docs"],
+        GREETING,
+        2,
+        b"",
+    ),
+];
+
+#[test]
+fn a_client_with_the_key_is_served(rt: HostRuntime) -> Result<(), Fail> {
+    let alloc = rt.alloc();
+    for (asked, input, status, sent) in KEYS {
+        let first = run(alloc, &words(alloc, asked)?, link_of(alloc, &[input])?);
+        expect(&rt, &first, status, sent, 0);
+    }
+    let mut key = String::new(alloc);
+    for _ in 0..1025 {
+        key.push_str("k")?;
+    }
+    let long = ["stdio", "--key", key.as_str(), "--table", "test.docs"];
+    let first = run(alloc, &words(alloc, &long)?, link_of(alloc, &[GREETING])?);
+    expect(&rt, &first, 2, b"", 0);
     Ok(())
 }
 

@@ -1,7 +1,7 @@
 // The top call: one session over one link.
-ghost use Rattle.std.specs.Prelude.{◌≡◌, ◌↔◌, ◌<◌, ℕ, List, [], length, map, string_bytes};
+ghost use Rattle.std.specs.Prelude.{◌≡◌, ◌↔◌, ◌<◌, [], length, map, string_bytes};
 ghost use Rattle.std.specs.Prelude.{IfSome, MatchOption, Some, None};
-ghost use Rattle.reqld.specs.Promise.{Session, Talked, longest_request, table_of_words};
+ghost use Rattle.reqld.specs.Promise.{Session, Setup, Talked, longest_request, setup_of_words};
 
 use crate::ending::End;
 use crate::greeting::{Greeted, greet};
@@ -12,7 +12,7 @@ use crate::words::{Command, command_of};
 use reql_datum::Name;
 use reql_outside::Link;
 use reql_plain_table::{Entry, PlainTable};
-use reql_wire::Feeder;
+use reql_wire::{Feeder, Greeter};
 use std::alloc::Global;
 
 /// The longest body of a request, in bytes.
@@ -56,20 +56,28 @@ fn out_of_memory(alloc: Global) -> Finished
 }
 
 // The turns of a session on a table that is empty at first.
-fn converse<L: Link>(setting: &Setting<'_>, link: &mut L, state: &mut State, buf: &mut [u8]) -> End
+fn converse<L: Link>(
+    setting: &Setting<'_>,
+    link: &mut L,
+    greeter: &mut Greeter,
+    state: &mut State,
+    buf: &mut [u8],
+) -> End
     requires room { 0 < length buf.old }
+    requires first { greeter.old.heard ≡ [] }
     requires bytes { state.old.feeder ≡ record { limit = longest_request; held = [] } }
     requires table { state.old.table ≡ [] }
-    ensures { Talked setting.now.name.now (L.tape link.old) (L.tape link.new)
-        state.new.table result }
+    ensures { Talked (record { key = greeter.old.key; table = setting.now.name.now })
+        (L.tape link.old) (L.tape link.new) state.new.table result }
 {
-    match greet(link, &mut state.feeder, buf, TURNS) {
+    match greet(link, greeter, &mut state.feeder, buf, TURNS) {
         Greeted::Ended(end) => end,
         Greeted::Accepted { turns } => serve(setting, turns, link, state, buf),
     }
 }
 
-// What a session takes before its first byte, or none where memory is wanted for it.
+// What a session takes before its first byte, its greeter aside, or none where memory is wanted for
+// it.
 fn room(alloc: Global) -> Option<(State, Vec<u8>)>
     ensures bytes { IfSome result (λ r.
         r.0.feeder ≡ record { limit = longest_request; held = [] }) }
@@ -86,11 +94,15 @@ fn room(alloc: Global) -> Option<(State, Vec<u8>)>
     Some((state, buf))
 }
 
-// One session over a link, on a table that is empty at first.
-fn talk_over<L: Link>(alloc: Global, name: &str, link: &mut L) -> Finished
-    ensures { Talked name.now (L.tape link.old) (L.tape link.new) result.history.items result.end }
+// One session over a link with who has the key, on a table that is empty at first.
+fn talk_over<L: Link>(alloc: Global, key: &str, name: &str, link: &mut L) -> Finished
+    ensures { Talked (record { key = key.now; table = name.now }) (L.tape link.old)
+        (L.tape link.new) result.history.items result.end }
 {
-    let Ok(key) = Name::of(alloc, "id") else {
+    let Ok(field) = Name::of(alloc, "id") else {
+        return out_of_memory(alloc);
+    };
+    let Ok(mut greeter) = Greeter::new(alloc, key.as_bytes()) else {
         return out_of_memory(alloc);
     };
     let Some((state, mut buf)) = room(alloc) else {
@@ -100,22 +112,23 @@ fn talk_over<L: Link>(alloc: Global, name: &str, link: &mut L) -> Finished
     let setting = Setting {
         alloc,
         name,
-        key: &key,
+        key: &field,
     };
-    let end = converse(&setting, link, &mut state, &mut buf);
+    let end = converse(&setting, link, &mut greeter, &mut state, &mut buf);
     Finished {
         end,
         history: state.table.into_history(),
     }
 }
 
-fn serve_link<L: Link>(alloc: Global, name: &str, link: L) -> First<L::Record>
+fn serve_link<L: Link>(alloc: Global, key: &str, name: &str, link: L) -> First<L::Record>
     ensures status { (result.status ≡ 2) → ⊥ }
     ensures session { MatchOption result.tape ⊥ (λ r.
-        Session name.now (L.tape link) (L.kept r) result.history.items result.status) }
+        Session (record { key = key.now; table = name.now }) (L.tape link) (L.kept r)
+        result.history.items result.status) }
 {
     let mut link = link;
-    let Finished { end, history } = talk_over(alloc, name, &mut link);
+    let Finished { end, history } = talk_over(alloc, key, name, &mut link);
     First {
         status: end.status(),
         tape: Some(link.finish()),
@@ -123,21 +136,23 @@ fn serve_link<L: Link>(alloc: Global, name: &str, link: L) -> First<L::Record>
     }
 }
 
-/// Serves one session over a link, on the table that the words name, which is empty at first.
+/// Serves one session over a link, with a client that greets with the key that the words say, on the
+/// table that they name, which is empty at first.
 ///
-/// The words are `stdio --table test.NAME`. With any other words the status is 2, and no record is
-/// there. Where the link tells its bytes, what was given and sent is known: the answer to the
-/// greeting and then, for each whole frame in order, its answer by the entries before it, or the
-/// answer for want of memory. The first recv or send that fails ends the session.
+/// The words are `stdio [--key K] --table test.NAME`, the options in any order, K of at most 1024
+/// bytes; without it the key is empty. With any other words the status is 2, and no record is there.
+/// Where the link tells its bytes, what was given and sent is known: the answer to the greeting and
+/// then, for each whole frame in order, its answer by the entries before it, or the answer for want
+/// of memory. The first recv or send that fails ends the session.
 pub fn run<L: Link + Drop>(alloc: Global, words: &[String], stdio: L) -> First<L::Record>
-    ensures words { (table_of_words (map string_bytes words.now) ≡ None) ↔ (result.status ≡ 2) }
+    ensures words { (setup_of_words (map string_bytes words.now) ≡ None) ↔ (result.status ≡ 2) }
     ensures unused { result.status ≡ 2 → (result.tape ≡ None) × (result.history.items ≡ []) }
     ensures session { MatchOption result.tape (result.status ≡ 2) (λ r.
-        (table : List ℕ) × (table_of_words (map string_bytes words.now) ≡ Some table)
-        × Session table (L.tape stdio) (L.kept r) result.history.items result.status) }
+        (setup : Setup) × (setup_of_words (map string_bytes words.now) ≡ Some setup)
+        × Session setup (L.tape stdio) (L.kept r) result.history.items result.status) }
 {
     match command_of(words) {
-        Command::Serve { table } => serve_link(alloc, table, stdio),
+        Command::Serve { key, table } => serve_link(alloc, key, table, stdio),
         _ => First {
             status: 2,
             tape: None,

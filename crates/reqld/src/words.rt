@@ -1,12 +1,16 @@
 // The words of the command line.
-ghost use Rattle.std.specs.Prelude.{◌≡◌, map, string_bytes, option_map};
+ghost use Rattle.std.specs.Prelude.{◌≡◌, [], map, string_bytes, option_map, unwrap_or, None};
 ghost use Rattle.std.specs.List.{list_all};
-ghost use Rattle.reqld.specs.Words.{Asks, Says, asks, asks_option, asks_table, ends_in, is_name, is_name_byte, table_in};
+ghost use Rattle.reqld.specs.Words.{Asks, Says, asks, asks_options, ends_in, is_first, is_name, is_name_byte, lacks_value, serves, table_in};
+
+use reql_wire::LONGEST_KEY;
 
 /// What is wanted where the words end too early.
 #[derive(Clone, Copy, Debug, PartialEq, Eq)]
 pub enum Wanted {
     Command,
+    /// The key after `--key`.
+    Key,
     /// The option `--table`.
     TableOption,
     /// The table after `--table`.
@@ -16,8 +20,9 @@ pub enum Wanted {
 /// What the words ask for.
 #[derive(Clone, Copy, Debug, PartialEq, Eq)]
 pub enum Command<'a> {
-    /// Serve one session over standard input and output, on the table of this name in the database `test`.
-    Serve { table: &'a str },
+    /// Serve one session over standard input and output to who has this authorization key, on the
+    /// table of this name in the database `test`.
+    Serve { key: &'a str, table: &'a str },
     /// Say how to use the program.
     Help,
     /// Say which version of the program this is.
@@ -28,7 +33,8 @@ pub enum Command<'a> {
     Missing { what: Wanted },
 }
 
-/// What the words ask for: `stdio --table test.NAME`, `--help` or `--version`, each alone.
+/// What the words ask for: `stdio [--key K] --table test.NAME`, its options in any order, `--help` or
+/// `--version`, each alone.
 pub fn command_of(words: &[String]) -> Command<'_>
     ensures { Says (asks (map string_bytes words.now)) result }
 {
@@ -38,40 +44,84 @@ pub fn command_of(words: &[String]) -> Command<'_>
         };
     };
     match first.as_str() {
-        "stdio" => option_of(rest),
+        "stdio" => options_of(rest, None, None),
         "--help" => ended(Command::Help, rest),
         "--version" => ended(Command::Version, rest),
         word => Command::Wrong { word },
     }
 }
 
-fn option_of(words: &[String]) -> Command<'_>
-    ensures { Says (asks_option (map string_bytes words.now)) result }
+// What the options ask for, where these are the values of those before them.
+fn options_of<'a>(words: &'a [String], key: Option<&'a str>, table: Option<&'a str>) -> Command<'a>
+    ensures { Says (asks_options (map string_bytes words.now) (option_map (λ k. k.now) key.entry)
+        (option_map (λ t. t.now) table.entry)) result }
 {
-    let Some((first, rest)) = words.split_first() else {
-        return Command::Missing {
-            what: Wanted::TableOption,
-        };
+    let [word, rest @ ..] = words else {
+        return served(key, table);
     };
-    match first.as_str() {
-        "--table" => table_of(rest),
-        word => Command::Wrong { word },
+    let [value, rest @ ..] = rest else {
+        return lacks_value(word.as_str(), key, table);
+    };
+    let (word, value) = (word.as_str(), value.as_str());
+    if is_first(word, "--key", key) {
+        if value.len() > LONGEST_KEY {
+            return Command::Wrong { word: value };
+        }
+        return options_of(rest, Some(value), table);
     }
+    if is_first(word, "--table", table) {
+        return match table_in(value) {
+            Some(name) => options_of(rest, key, Some(name)),
+            None => Command::Wrong { word: value },
+        };
+    }
+    Command::Wrong { word }
 }
 
-fn table_of(words: &[String]) -> Command<'_>
-    ensures { Says (asks_table (map string_bytes words.now)) result }
+// Whether a word is an option that has no value yet.
+fn is_first(word: &str, name: &str, value: Option<&str>) -> bool
+    ensures { result ≡ is_first word.now name.now (option_map (λ v. v.now) value.entry) }
 {
-    let Some((first, rest)) = words.split_first() else {
+    word == name && value.is_none()
+}
+
+// The words end at an option.
+fn lacks_value<'a>(word: &'a str, key: Option<&'a str>, table: Option<&'a str>) -> Command<'a>
+    ensures { Says (lacks_value word.now (option_map (λ k. k.now) key.entry)
+        (option_map (λ t. t.now) table.entry)) result }
+{
+    if is_first(word, "--key", key) {
+        return Command::Missing { what: Wanted::Key };
+    }
+    if is_first(word, "--table", table) {
         return Command::Missing {
             what: Wanted::TableName,
         };
-    };
-    match table_in(first.as_str()) {
-        Some(table) => ended(Command::Serve { table }, rest),
-        None => Command::Wrong {
-            word: first.as_str(),
+    }
+    Command::Wrong { word }
+}
+
+// All options are said.
+fn served<'a>(key: Option<&'a str>, table: Option<&'a str>) -> Command<'a>
+    ensures { Says (serves (option_map (λ k. k.now) key.entry) (option_map (λ t. t.now) table.entry)) result }
+{
+    match table {
+        Some(table) => Command::Serve {
+            key: key_or_none(key),
+            table,
         },
+        None => Command::Missing {
+            what: Wanted::TableOption,
+        },
+    }
+}
+
+fn key_or_none(key: Option<&str>) -> &str
+    ensures { result.now ≡ unwrap_or (option_map (λ k. k.now) key.entry) [] }
+{
+    match key {
+        Some(key) => key,
+        None => "",
     }
 }
 

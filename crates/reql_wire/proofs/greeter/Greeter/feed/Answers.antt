@@ -1,34 +1,41 @@
-use Rattle.std.proofs.Common.{◌≡◌, ◌≤◌, ◌+◌, ◌-◌, min, ◌++◌, length, refl, ◌∙◌, arith}
-use borrow.Rule.Slice.PartMut.{put_mid, same_len_mid}
-use Rattle.reql_wire.proofs.Greetings.{filled_front, short_of, full_of, whole_front, count_of, told_same, told_other}
+use Rattle.std.proofs.Common.{◌≡◌, ◌∙◌, ◌++◌, length, sym, ap, arith}
+use Rattle.reql_wire.specs.Greeting.{Listening, kept}
+use Rattle.reql_wire.specs.declared.greeter.Greeting.TheVariants as greeting
+use Rattle.reql_wire.proofs.Greetings.{keeps, listening, accepted_answer, other_answer, waits}
 use Rattle.reql_wire.proofs.greeter.Greeter.feed.Goals as goal
-use Rattle.reql_wire.proofs.greeter.Greeter.feed.Goals.{then-end-lt12, else-end-lt12+then-eq, else-end-lt12+else-eq}
+use Rattle.reql_wire.proofs.greeter.Greeter.feed.Goals.{in-Accepted, in_default-verdict_of}
+
+own_key : (c : goal.Joined-verdict_of) → c.self.inside.key.items ≡ c.args.self.now.key
+own_key c = ap (λ (g : Listening). g.key) c.self.view_is
+
+own_heard : (c : goal.Joined-verdict_of) → c.self.inside.heard.items ≡ c.args.self.now.heard
+own_heard c = ap (λ (g : Listening). g.heard) c.self.view_is
+
+now_heard : (c : goal.Joined-verdict_of) → c.extend_from_slice.new.self.items ≡ kept (c.args.self.now.heard ++ c.args.piece.now)
+now_heard c =
+    keeps c.self.inside.heard.items c.args.self.now.heard c.args.piece.now c.extend_from_slice.new.self.items c.len-before.result c.min-taken.result
+    c.self.invariant.0 (own_heard c) (c.len-before.ensures ∙ c.self.inside.heard.ok.0) c.min-taken.ensures c.in-Ok.ensures.items
 
 pub returns-clause-keeps : goal.returns-clause-keeps
-returns-clause-keeps c =
-    filled_front c.self.inside.bytes c.args.piece.now c.copy_from_slice.new.self c.args.self.now
-    c.self.inside.count c.min-used.result (c.self.inside.count + c.min-used.result - c.self.inside.count)
-    c.self.invariant c.self.told c.self.view_is c.min-used.ensures c.copy_from_slice.ensures.after
+returns-clause-keeps c = listening _ _ _ _ (own_key c) (now_heard c)
 
 pub returns-clause-answers : goal.returns-clause-answers
 returns-clause-answers c =
-    let held = c.args.self.now in
-    let piece = c.args.piece.now in
-    let used = c.min-used.result in
-    let room = c.self.inside.count + used - c.self.inside.count in
-    let bytes = put_mid c.self.inside.count room c.self.inside.bytes c.copy_from_slice.new.self in
-    let count_is = count_of c.self.inside.bytes held c.self.inside.count c.self.invariant c.self.told c.self.view_is in
-    let size : length bytes ≡ 12 = same_len_mid c.self.inside.count room c.self.inside.bytes c.copy_from_slice.new.self c.copy_from_slice.ensures.len ∙ c.self.told in
-    let fits : length held ≤ 12 = omega (arith, c.self.invariant) in
-    let least : used ≡ min (length piece) (12 - length held) = omega (arith, c.min-used.ensures) in
-    elim c.if-end-lt12.branch [
-      | then-end-lt12 w ↦ rw w.result-is (short_of held piece used fits least (omega (arith, w.if-end-lt12.true)))
-      | else-end-lt12+then-eq w ↦
-          let full = full_of held piece used fits least (omega (arith, w.if-end-lt12.false)) in
-          let whole = whole_front c.self.inside.bytes c.copy_from_slice.new.self held piece c.self.inside.count used room size w.if-end-lt12.false (returns-clause-keeps c) in
-          rw w.result-is ((full.0, told_same bytes (held ++ piece) w.eq.result whole w.eq.ensures w.if-eq.true, refl), full.1)
-      | else-end-lt12+else-eq w ↦
-          let full = full_of held piece used fits least (omega (arith, w.if-end-lt12.false)) in
-          let whole = whole_front c.self.inside.bytes c.copy_from_slice.new.self held piece c.self.inside.count used room size w.if-end-lt12.false (returns-clause-keeps c) in
-          rw w.result-is (full.0, told_other bytes (held ++ piece) w.eq.result whole w.eq.ensures w.if-eq.false)
+    elim c.match-verdict_of.branch [
+      | in-Accepted w ↦
+          rw w.result-is (accepted_answer c.args.self.now.key c.args.self.now.heard c.args.piece.now c.deref.result.now c.deref-2.result.now w.in-Accepted.used w.saturating_sub.result
+          (c.deref.ensures.value ∙ own_key c) (c.deref-2.ensures.value ∙ now_heard c) w.in-Accepted.ensures.verdict w.in-Accepted.ensures.begins
+          (omega (arith, w.saturating_sub.ensures, c.len-before.ensures, c.self.inside.heard.ok.0, ap length (own_heard c))))
+      | in_default-verdict_of w ↦
+          rw w.result-is (other_answer c.args.self.now.key c.args.self.now.heard c.args.piece.now c.deref.result.now c.deref-2.result.now c.verdict_of.result
+          (c.deref.ensures.value ∙ own_key c) (c.deref-2.ensures.value ∙ now_heard c) c.verdict_of.ensures.verdict w.in_default-verdict_of.not-Accepted)
+    ]
+
+pub returns-clause-waits : goal.returns-clause-waits
+returns-clause-waits c =
+    λ more. elim c.match-verdict_of.branch [
+      | in-Accepted w ↦ absurd (let e : greeting.Accepted w.saturating_sub.result ≡ greeting.More = sym w.result-is ∙ more in cc)
+      | in_default-verdict_of w ↦
+          sym c.deref-2.ensures.value
+          ∙ waits c.args.self.now.key c.args.self.now.heard c.args.piece.now c.deref.result.now c.deref-2.result.now (c.deref.ensures.value ∙ own_key c) (c.deref-2.ensures.value ∙ now_heard c) (c.verdict_of.ensures.verdict ∙ sym w.result-is ∙ more)
     ]
