@@ -5,6 +5,3 @@ mod Named
 mod Steps
 mod Turned
 mod Rising
-mod Filing
-mod Listed
-mod Sends

@@ -1,4 +1,3 @@
 pub mod Keys
 pub mod Seen
 pub mod Inside
-pub mod Edits

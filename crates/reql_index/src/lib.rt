@@ -1,6 +1,0 @@
-//! Secondary indexes: the entries of a document.
-#![tactic(auto)]
-
-mod document;
-
-pub use document::entries;
