@@ -5,3 +5,6 @@ mod Named
 mod Steps
 mod Turned
 mod Rising
+mod Filing
+mod Listed
+mod Sends

@@ -20,14 +20,14 @@ then_none Less = refl
 then_none Equal = refl
 then_none Greater = refl
 
-key_order : (e f : Entry) → order (key_of e) (key_of f) ≡ entry_order e f
+pub key_order : (e f : Entry) → order (key_of e) (key_of f) ≡ entry_order e f
 key_order e f = ap (ordering_then (order e.0 f.0)) (then_none (order e.1.0 f.1.0))
 
 above_all : (e : Entry) (es : List Entry) → AllByRecursion (λ f. entry_order e f ≡ Less) es → AllByRecursion (λ y. order (key_of e) y ≡ Less) (keys_of (pairs_of es))
 above_all e [] h = tt
 above_all e (f ∷ es) h = (key_order e f ∙ h.0, above_all e es h.1)
 
-pairs_rise : (es : List Entry) → AreInOrder es → AreRising (pairs_of es)
+pub pairs_rise : (es : List Entry) → AreInOrder es → AreRising (pairs_of es)
 unfolding IsStrictlySortedBy
 pairs_rise [] h = tt
 pairs_rise (e ∷ es) h = (above_all e es h.0, pairs_rise es h.1)

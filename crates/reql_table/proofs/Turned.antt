@@ -122,3 +122,12 @@ all_kept [] = refl
 all_kept (m ∷ ms) =
     (λ i. map (λ (n : Plain × Plain). n.1) (cond (not (least_is m.0 i) && highest_is m.0 i) (m ∷ filter (lies_within low false high false) ms) (filter (lies_within low false high false) ms)))
     ∙ ap (λ t. m.1 ∷ t) (all_kept ms)
+
+pub all_lie : (ms : List (Plain × Plain)) → filter (lies_within low false high false) ms ≡ ms
+all_lie [] = refl
+all_lie (m ∷ ms) =
+    (λ i. cond (not (least_is m.0 i) && highest_is m.0 i) (m ∷ filter (lies_within low false high false) ms) (filter (lies_within low false high false) ms))
+    ∙ ap (λ t. m ∷ t) (all_lie ms)
+
+pub all_inside : (ps : List Pair) (ms : List (Plain × Plain)) → map pair ps ≡ filter (lies_within low false high false) ms → map pair ps ≡ ms
+all_inside ps ms e = e ∙ all_lie ms

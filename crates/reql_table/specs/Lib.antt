@@ -1,3 +1,4 @@
 pub mod Keys
 pub mod Seen
 pub mod Inside
+pub mod Edits

@@ -30,6 +30,9 @@ unnumbered = map (λ m. (m.0, m.1.1))
 abbrev pub indexes_of : Standing → List (Bytes × Index)
 indexes_of t = unnumbered t.1.0
 
+abbrev pub numbered_of : Standing → List (Bytes × Numbered)
+numbered_of t = t.1.0
+
 abbrev pub next_of : Standing → ℕ
 next_of t = t.1.1
 
@@ -54,6 +57,10 @@ pub record Keeps (docs : List Document) (is : List FiledIndex) : Type 0 where
 abbrev pub FindsOne : Standing → Bytes → Option FiledIndex → Type 0
 FindsOne t name None = find name (indexes_of t) ≡ None
 FindsOne t name (Some i) = (find name (indexes_of t) ≡ Some (index_of i.def)) × IsFiled (documents_of t) i
+
+-- the same with the number of its tree
+abbrev pub numbered_in : Option (Bor FiledIndex) → Option Numbered
+numbered_in o = option_map (λ i. (numbered i.now).1) o
 
 abbrev pub Finds : Standing → Bytes → Option (Bor FiledIndex) → Type 0
 Finds t name o = FindsOne t name (option_map (λ i. i.now) o)

@@ -66,8 +66,8 @@ fn pair_of(key: &Datum, document: &Datum) -> Result<Pair, Memory>
     })
 }
 
-// The pairs, rising by key.
-fn pairs(alloc: Global, slice: &Slice<'_>) -> Result<Vec<Pair>, Memory>
+/// The pairs, rising by key.
+pub(crate) fn pairs(alloc: Global, slice: &Slice<'_>) -> Result<Vec<Pair>, Memory>
     requires rising { AreRising slice.now.tree.now }
     ensures { IfOk result (λ ps. map pair ps.items ≡ pairs_inside slice.now) }
 {

@@ -1,13 +1,14 @@
 // What the call of a row gives.
 use crate::slots::InSlots;
 use crate::told::{fault, value};
-use reql_eval::eval;
+use crate::veiled::written;
+use reql_eval::{eval, function_datum};
 use reql_operand::World;
 use reql_read::{Query, read_query};
 use reql_rewrite::rewrite;
 use reql_sense::Vars;
 use reql_term::Term;
-use rows_reader::{Answers, Row};
+use rows_reader::{Answers, Row, arguments};
 use rows_table::ListedTable;
 use std::alloc::Global;
 
@@ -50,10 +51,21 @@ fn of_limited(alloc: Global, source: &str) -> Option<String> {
     of_term(alloc, source, &world)
 }
 
+// A term called with the values [..] that stand before it.
+fn of_function(alloc: Global, source: &str) -> Option<String> {
+    let (values, source) = source.split_once(" of ")?;
+    let term = term_of(alloc, source)?;
+    match function_datum::<ListedTable>(alloc, &term, arguments(alloc, values)?.as_slice()) {
+        Ok(found) => written(alloc, &found),
+        Err(why) => fault(alloc, &why),
+    }
+}
+
 impl Answers for Calls {
     fn answer(&self, alloc: Global, row: &Row<'_>) -> Option<String> {
         match row.call {
             "value" => of_term(alloc, row.arguments, &self.world),
+            "function" => of_function(alloc, row.arguments),
             "within" => of_limited(alloc, row.arguments),
             _ => None,
         }

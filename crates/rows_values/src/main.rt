@@ -5,7 +5,8 @@
 //! what it gives. The table in slot n is written as the variable 1000 + n. What a term gives is
 //! a document, or a word for what it is with its documents: `stream`, `rows`, `rows in array`, `slice`,
 //! `row`, `groups`, `table` with its slot, `database` with its name, `function`; or the name of a fault
-//! with its text. `within` rows have no tables, and a limit of arrays before the term.
+//! with its text. `function` rows call a term with an array of values, outside of any request; `within`
+//! rows have no tables, and a limit of arrays before the term.
 #![tactic(auto)]
 
 mod calls;

@@ -1,0 +1,6 @@
+//! Secondary indexes: the entries of a document.
+#![tactic(auto)]
+
+mod document;
+
+pub use document::entries;
