@@ -1,0 +1,6 @@
+//! What a server tells of itself.
+#![tactic(auto)]
+
+mod server;
+
+pub use server::server_info;
