@@ -4,3 +4,6 @@ pub mod Script
 pub mod Standard
 pub mod Played
 pub mod Memory
+pub mod Source
+pub mod Chance
+pub mod Hours

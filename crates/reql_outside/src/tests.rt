@@ -1,5 +1,8 @@
 use crate::stream::{read_some, write_on};
-use crate::{Link, LinkStep, MemLink, Recv, Sending, StdLink, send_all};
+use crate::{
+    Clock, Dice, Link, LinkStep, MemClock, MemDice, MemLink, OsClock, OsDice, Recv, Rolled,
+    Sending, StdLink, Told, send_all,
+};
 use std::io::{self, ErrorKind, Read, Write};
 use std::test::Fail;
 
@@ -140,5 +143,29 @@ fn streams_are_tried_again_at_signals_and_stop_at_errors(rt: HostRuntime) -> Res
         (sent, record.faults_in, record.faults_out),
         (Sending::Sent(5), 0, 0)
     );
+    Ok(())
+}
+
+#[test]
+fn dice_and_clocks_play_their_lists_and_ask_the_system(rt: HostRuntime) -> Result<(), Fail> {
+    let alloc = rt.alloc();
+    let mut dice = MemDice::new(vec![in alloc; [7; 16]]?, vec![in alloc; 1]?);
+    assert_eq!(rt;
+        (dice.roll(), dice.roll(), dice.roll()),
+        (
+            Rolled::Bytes([7; 16]),
+            Rolled::Failed,
+            Rolled::Bytes([0; 16])
+        )
+    );
+    let mut clock = MemClock::new(vec![in alloc; -5]?, vec![in alloc; 0]?);
+    assert_eq!(rt;
+        (clock.seconds(), clock.seconds(), clock.seconds()),
+        (Told::Failed, Told::At(-5), Told::At(0))
+    );
+    let mut dice = OsDice::new(rt);
+    assert!(rt; dice.roll() != dice.roll());
+    let mut clock = OsClock::new(rt);
+    assert!(rt; matches!(clock.seconds(), Told::At(seconds) if seconds > 1_700_000_000));
     Ok(())
 }
