@@ -2,3 +2,4 @@ pub mod Keys
 pub mod Seen
 pub mod Inside
 pub mod Edits
+pub mod Trees

@@ -12,6 +12,7 @@ mod refile;
 mod slice;
 mod table;
 mod threads;
+mod trees;
 mod view;
 mod walk;
 
