@@ -1,0 +1,11 @@
+pub mod Upward
+pub mod Orders
+pub mod Shelves
+pub mod Tellings
+pub mod Sendings
+pub mod Fronts
+pub mod Feeding
+pub mod Going
+pub mod Steps
+pub mod Worked
+pub mod Rests

@@ -1,0 +1,5 @@
+use Rattle.reql_story.proofs.Rests as rests
+use Rattle.reql_story.proofs.laws.frames_handled.Goals as goal
+
+pub returns : goal.returns
+returns g c = rests.frames_handled g.F.Planning.talk

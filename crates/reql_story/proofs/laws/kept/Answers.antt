@@ -1,0 +1,5 @@
+use Rattle.reql_story.proofs.Upward as upward
+use Rattle.reql_story.proofs.laws.kept.Goals as goal
+
+pub returns : goal.returns
+returns g c = upward.kept g.F.Planning.talk

@@ -1,0 +1,107 @@
+-- The laws of explained sessions.
+use Rattle.std.specs.Prelude.{◌≡◌, ◌≤◌, ℕ, Bool, true, false, length, List, [], ◌∷◌, ◌++◌, take, flat_map, map, Some}
+use Rattle.reql_datum.specs.Plain.{Plain}
+use Rattle.reql_wire.specs.Frames.{Over, spellings}
+use Rattle.reql_wire.specs.Greeting.{Greets}
+use Rattle.reql_wire.specs.declared.greeter.Greeting.TheVariants as greeting
+use Rattle.reql_shared.specs.Acts.{Ran}
+use Rattle.reql_shared.specs.History.{own}
+use Rattle.reql_shared.specs.Machine.{replay}
+use Rattle.reql_shared.specs.Parts.{Part, between}
+use Rattle.reql_catalog.specs.declared.catalog.Catalog.{Catalog}
+use Rattle.reql_catalog.specs.declared.command.CatCmd.{CatCmd}
+use Rattle.reql_hall.specs.Rooms.{Sitting, Histories, pass, LearnsAll}
+use Rattle.reql_hall.specs.Shares.{Share, Grows, share, seen_by, IsKept, Serves}
+use Rattle.reql_table_machine.specs.Feeding.{fold, bare}
+use Rattle.reql_table_machine.specs.Fed.{upto, Whole, takings}
+use Rattle.reql_table_machine.specs.declared.command.Said.TheVariants as said
+use Rattle.reql_law.specs.Laws.{AreGood, docs_at, known_act}
+use Rattle.reql_law.specs.Machine.{State, machine}
+use Rattle.reql_law.specs.Replies.{Answered as Told}
+use Rattle.reql_law.specs.Table as tables
+use Rattle.reql_law.specs.Table.{Held, feeding}
+use Rattle.reql_law.specs.declared.command.Cmd.TheVariants as cmds
+use Rattle.reql_law.specs.declared.command.FeedSpec.{FeedSpec}
+use Rattle.reql_law.specs.declared.command.Order.{Order}
+use Rattle.reql_law.specs.declared.reply.Saved.{Saved}
+use Rattle.reql_story.specs.Tasks.{Talk}
+use Rattle.reql_story.specs.Session.{Event, On, Mach, fresh, Unread, Run, heard, begun, acts_on}
+use Rattle.reql_story.specs.Explained.{DeskShare, DeskSeen, Life, Explained, ExplainedBy, sent_of}
+use Rattle.reql_story.specs.declared.end.End.{End}
+use Rattle.reql_story.specs.declared.end.End.TheVariants as ends
+
+abbrev pub Desk : Type 0
+Desk = Sitting Order State CatCmd Catalog
+
+-- own entries and marks are those of the parts, in order, with nothing left
+pub record NoneLeft {C S : Type 0} (whole : Part C S) (parts : List (Part C S)) : Type 0 where
+  pub owned : own whole.number whole.during ≡ flat_map (λ (p : Part C S). own p.number p.during) parts
+  pub marks : whole.marks ≡ flat_map (λ (p : Part C S). p.marks) parts
+
+module _ {PL : Type 0} (k : Talk PL) where
+  -- What came is a greeting, where none had come, then the frames that were handled, in order, and then what is held.
+  pub record Handled (m n : Mach PL) (es : List Event) : Type 0 where
+    pub greeting : List ℕ
+    pub input : m.held ++ heard es ≡ greeting ++ (spellings (begun es) ++ n.held)
+    pub once : m.greeted ≡ true → greeting ≡ []
+
+  abbrev pub InOrder : Type 0
+  InOrder = (m n : Mach PL) (es : List Event) → Run k m es n → Handled m n es
+
+  -- What is held when a session leaves: no whole greeting or frame where its input ended or failed, the header that is too
+  -- long, or the greeting that was refused. Of the other ends nothing is said.
+  abbrev pub LeftAs : End → Bool → List ℕ → Type 0
+  LeftAs ends.Closed greeted held = (held ≡ []) × Unread k greeted held
+  LeftAs (ends.Cut n) greeted held = (n ≡ length held) × Unread k greeted held
+  LeftAs (ends.Refused fault) greeted held = (greeted ≡ false) × Greets k.key held (greeting.Refused fault)
+  LeftAs (ends.TooLong len) greeted held = (greeted ≡ true) × Over k.limits.frame held len
+  LeftAs ends.ReadFault greeted held = Unread k greeted held
+  LeftAs end greeted held = Unit {0}
+
+  -- every whole frame that was given was handled, in order, unless the session ended by a failed send, worn, or for want of memory
+  abbrev pub FramesHandled : Type 0
+  FramesHandled = (share : DeskShare) (life : Life) (e : Explained k share life) → Handled fresh e.final e.events × LeftAs life.end e.final.greeted e.final.held
+
+  -- one more session lengthens what a desk did by its share
+  abbrev pub OneMore : Type 0
+  OneMore = (some : State) (a b c : Desk) (lives : List Life) (life : Life)
+      → Serves some (ExplainedBy k) a b lives → Grows some b c → ExplainedBy k (seen_by some c) (share some b c) life
+      → Serves some (ExplainedBy k) a c (lives ++ life ∷ [])
+
+  -- and what it learns of others leaves that as it is
+  abbrev pub Learning : Type 0
+  Learning = (some : State) (a b c : Desk) (lives : List Life) (all : Histories Order CatCmd)
+      → Serves some (ExplainedBy k) a b lives → LearnsAll b c all → Serves some (ExplainedBy k) a c lives
+
+  -- and the desk's own entries and its marks are those of its sessions
+  abbrev pub NothingLeft : Type 0
+  NothingLeft = (some : State) (a b : Desk) (lives : List Life) (s : Serves some (ExplainedBy k) a b lives)
+      → NoneLeft (between a.names b.names) (map (λ (x : DeskShare). x.names) s.shares)
+      × ((slot : ℕ) → NoneLeft (between (pass some a slot) (pass some b slot)) (map (λ (x : DeskShare). x.slots slot) s.shares))
+
+  -- A request of an explained session opened a feed, with this number and this stamp, in these events.
+  pub record Opens (seen : DeskSeen) (share : DeskShare) (life : Life) (slot feed stamp : ℕ) (after : List Event) : Type 0 where
+    pub story : ExplainedBy k seen share life
+    pub before : List Event
+    pub place : ℕ
+    pub order : Order
+    pub reply : Told
+    pub kept : Saved
+    pub spec : FeedSpec
+    pub opening : List Plain
+    pub held : Held
+    pub events : story.explained.events ≡ before ++ On slot (Ran place order reply) kept ∷ after
+    pub asks : order.cmd ≡ cmds.Subscribe spec
+    pub says : reply.said ≡ said.Opened feed opening
+    pub at : reply.stamp ≡ stamp
+    pub holds : tables.held (replay machine (share.slots slot).start (take place (seen.slots slot))).table.indexes spec ≡ Some held
+
+  -- *Fed*: the fold of the changes that were sent of it, up to any change up to which its answers are whole, over its value at
+  -- the opening, is its value there.
+  abbrev pub FeedsHold : Type 0
+  FeedsHold = (seen : DeskSeen) (share : DeskShare) (life : Life) → ((slot : ℕ) → AreGood (share.slots slot).start.table.docs) → ((slot : ℕ) → (share.slots slot).start.table.feeds ≡ [])
+      → (slot feed stamp : ℕ) (after : List Event) (o : Opens seen share life slot feed stamp after)
+      → (n : ℕ) → stamp ≤ n → Whole ((feeding (share.slots slot).start.most).squashes o.held) n (takings feed (map known_act (acts_on slot after))) (sent_of slot feed after)
+      → fold (feeding (share.slots slot).start.most) o.held ((feeding (share.slots slot).start.most).value o.held (docs_at (share.slots slot).start (seen.slots slot) stamp))
+      (bare (feeding (share.slots slot).start.most) (upto n (sent_of slot feed after)))
+      ≡ (feeding (share.slots slot).start.most).value o.held (docs_at (share.slots slot).start (seen.slots slot) n)

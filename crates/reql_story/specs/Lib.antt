@@ -1,0 +1,11 @@
+pub mod Requests
+pub mod Books
+pub mod Bodies
+pub mod Tasks
+pub mod Session
+pub mod Explained
+pub mod Minding
+pub mod Worlds
+pub mod Laws
+pub mod Sample
+pub mod Worked

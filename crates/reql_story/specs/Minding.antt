@@ -1,0 +1,42 @@
+-- What a session needs of plans for its feeds: a plan takes from none, closes only what it opened, and opens no others.
+use Rattle.std.specs.Prelude.{◌≡◌, ℕ, nat_eq, List, [], ◌∷◌, ◌++◌, Bool, true, false, ◌&&◌, ◌||◌}
+use Rattle.std.specs.List.{AllByRecursion}
+use Rattle.reql_law.specs.Replies.{Answered as Told}
+use Rattle.reql_law.specs.declared.command.Cmd.{Cmd}
+use Rattle.reql_law.specs.declared.command.Cmd.TheVariants as cmds
+use Rattle.reql_law.specs.declared.command.Order.{Order}
+use Rattle.reql_law.specs.declared.reply.Saved.{Saved}
+use Rattle.reql_story.specs.Requests.{Arm, Sort, Change, Shown, Feed, RunSlot, Ends, Found, RanSlot}
+use Rattle.reql_story.specs.Tasks.{Talk, arms_after}
+
+abbrev pub has_arm : ℕ → ℕ → List Arm → Bool
+has_arm slot feed [] = false
+has_arm slot feed (a ∷ arms) = (nat_eq a.slot slot && nat_eq a.feed feed) || has_arm slot feed arms
+
+-- a command of a plan that has these arms open
+abbrev pub Minds : List Arm → ℕ → Cmd → Type 0
+Minds arms slot (cmds.Take feed max) = ⊥
+Minds arms slot (cmds.Unsubscribe feed) = has_arm slot feed arms ≡ true
+Minds arms slot other = Unit {0}
+
+-- an item that is no change
+abbrev pub IsAside : Sort → Type 0
+IsAside Change = ⊥
+IsAside other = Unit {0}
+
+-- what was found other than by a command on a slot
+abbrev pub IsOther : Found → Type 0
+IsOther (RanSlot slot r saved) = ⊥
+IsOther other = Unit {0}
+
+module _ {PL : Type 0} (k : Talk PL) where
+  -- `on` says of a plan, noreply, a count, what was found and the arms that are open that a course comes by there
+  pub record PlansMind (on : PL → Bool → ℕ → List Found → List Arm → Type 0) : Type 0 where
+    pub begins : (plan : PL) (noreply : Bool) (count : ℕ) → on plan noreply count [] []
+    pub runs : (plan : PL) (noreply : Bool) (count : ℕ) (found : List Found) (arms : List Arm) (slot : ℕ) (order : Order) (reply : Told) (saved : Saved) →
+        on plan noreply count found arms → k.next plan noreply count found ≡ RunSlot slot order → Minds arms slot order.cmd × on plan noreply count (found ++ RanSlot slot reply saved ∷ []) (arms_after slot order.cmd reply.said arms)
+    pub finds : (plan : PL) (noreply : Bool) (count : ℕ) (found : List Found) (arms : List Arm) (x : Found) →
+        on plan noreply count found arms → IsOther x → on plan noreply count (found ++ x ∷ []) arms
+    pub ends : (plan : PL) (noreply : Bool) (count : ℕ) (found : List Found) (arms feed : List Arm) (notes : List ℕ) (items : List Shown) →
+        on plan noreply count found arms → k.next plan noreply count found ≡ Ends (Feed feed notes items) →
+        ((s f : ℕ) → has_arm s f feed ≡ true → has_arm s f arms ≡ true) × AllByRecursion (λ (x : Shown). IsAside x.sort) items

@@ -1,0 +1,178 @@
+-- Plans that are easy to see through: plan 0 follows the table in slot 0, any other plan is answered its number less one.
+use Rattle.std.specs.Prelude.{◌≡◌, ℕ, zero, suc, pos, List, [], ◌∷◌, ◌++◌, Bool, true, false, None, codes}
+use Rattle.std.specs.List.{AllByRecursion}
+use Rattle.std.proofs.Common.{refl, sym, ap, subst, ◌∙◌, true≢false}
+use Rattle.reql_datum.specs.Plain.{Plain, number}
+use Rattle.reql_answer.specs.declared.error.ErrorType.TheVariants as errors
+use Rattle.reql_feed_law.specs.declared.kind.FeedKind.TheVariants as kinds
+use Rattle.reql_table_machine.specs.declared.command.Said.{Said}
+use Rattle.reql_table_machine.specs.declared.command.Said.TheVariants as said
+use Rattle.reql_term.specs.Form as form
+use Rattle.reql_write_law.specs.declared.command.Summary.{Summary}
+use Rattle.reql_law.specs.Limits.{usual_limits}
+use Rattle.reql_law.specs.Replies.{Answered as Told}
+use Rattle.reql_law.specs.declared.command.Cmd.{Cmd}
+use Rattle.reql_law.specs.declared.command.Cmd.TheVariants as cmds
+use Rattle.reql_law.specs.declared.command.FeedSpec.{FeedSpec}
+use Rattle.reql_law.specs.declared.command.Order.{Order}
+use Rattle.reql_law.specs.declared.reply.Saved.{Saved}
+use Rattle.reql_law.specs.declared.reply.Saved.TheVariants as saved
+use Rattle.reql_story.specs.Requests.{ServerInfo, Arm, Shown, Answered, One, Feed, Fault, Wanting, Move, LookNames, RunSlot, Ends, Found, SawNames, Clocked, SawSlot, RanSlot, ChangedNames, Rolled}
+use Rattle.reql_story.specs.Tasks.{Talk, arms_said, arms_after}
+use Rattle.reql_story.specs.Minding.{has_arm, Minds, IsAside, IsOther, PlansMind}
+
+abbrev pub watch : FeedSpec
+watch = record { key = codes "id"; shape = form.slot 0; index = None; kind = kinds.Range; size = 2; offsets = false; types = false; squash = false }
+
+abbrev pub subscribe : Order
+subscribe = record { points = []; cmd = cmds.Subscribe watch }
+
+abbrev pub dropped : List ℕ
+dropped = codes "Table `test.docs` was dropped."
+
+-- what the answer to a Subscribe comes to, by whether it was kept on disk
+abbrev pub feed_end : Said Summary Plain → Answered
+feed_end (said.Opened feed opening) = Feed (record { slot = 0; feed = feed; dropped = dropped } ∷ []) (1 ∷ []) []
+feed_end (said.FeedsFull count) = Fault errors.ResourceLimit (codes "Too many feeds.")
+feed_end other = Fault errors.OpFailed dropped
+
+abbrev pub kept_end : Said Summary Plain → Saved → Answered
+kept_end s saved.Yes = feed_end s
+kept_end s saved.Failed = Fault errors.OpFailed (codes "Journal failed.")
+kept_end s saved.Memory = Wanting
+
+abbrev pub feed_next : List Found → Move
+feed_next [] = LookNames
+feed_next (x ∷ []) = RunSlot 0 subscribe
+feed_next (x ∷ RanSlot slot r kept ∷ more) = Ends (kept_end r.said kept)
+feed_next (x ∷ y ∷ more) = Ends Wanting
+
+abbrev pub next : ℕ → List Found → Move
+next zero found = feed_next found
+next (suc n) [] = LookNames
+next (suc n) (x ∷ more) = Ends (One (number (pos n)))
+
+abbrev pub sample : Talk ℕ
+sample = record {
+  key = [];
+  limits = usual_limits;
+  asked = λ body. ServerInfo;
+  next = λ plan noreply count found. next plan found;
+  batch = λ plan. 2;
+}
+
+-- a course comes by with the arm that its Subscribe opened
+abbrev pub arms_of : List Found → List Arm
+arms_of [] = []
+arms_of (x ∷ []) = []
+arms_of (x ∷ RanSlot slot r kept ∷ more) = arms_said 0 r.said []
+arms_of (x ∷ y ∷ more) = []
+
+abbrev pub comes_by : ℕ → Bool → ℕ → List Found → List Arm → Type 0
+comes_by plan noreply count found arms = arms ≡ arms_of found
+
+-- ---- these plans mind their feeds
+abbrev is_run : Move → Bool
+is_run (RunSlot slot order) = true
+is_run other = false
+
+abbrev slot_in : Move → ℕ
+slot_in (RunSlot slot order) = slot
+slot_in other = 7
+
+abbrev cmd_in : Move → Cmd
+cmd_in (RunSlot slot order) = order.cmd
+cmd_in other = cmds.Shut
+
+abbrev answered_in : Move → Answered
+answered_in (Ends a) = a
+answered_in other = Wanting
+
+abbrev arms_in : Answered → List Arm
+arms_in (Feed arms notes items) = arms
+arms_in other = []
+
+abbrev items_in : Answered → List Shown
+items_in (Feed arms notes items) = items
+items_in other = []
+
+abbrev AreAside : List Shown → Type 0
+AreAside items = AllByRecursion (λ (x : Shown). IsAside x.sort) items
+
+-- what a course owes where a plan runs a command
+abbrev Owes : ℕ → Bool → ℕ → List Found → List Arm → ℕ → Order → Told → Saved → Type 0
+Owes plan noreply count found arms slot order reply kept = Minds arms slot order.cmd × comes_by plan noreply count (found ++ RanSlot slot reply kept ∷ []) (arms_after slot order.cmd reply.said arms)
+
+no_run : {A : Type 0} (m : Move) (slot : ℕ) (order : Order) → is_run m ≡ false → m ≡ RunSlot slot order → A
+no_run m slot order h e = absurd (true≢false (sym (ap is_run e) ∙ h))
+
+runs : (plan : ℕ) (noreply : Bool) (count : ℕ) (found : List Found) (arms : List Arm) (slot : ℕ) (order : Order) (reply : Told) (kept : Saved) → comes_by plan noreply count found arms → next plan found ≡ RunSlot slot order → Owes plan noreply count found arms slot order reply kept
+runs zero noreply count [] arms slot order reply kept o e = no_run LookNames slot order refl e
+runs zero noreply count (x ∷ []) arms slot order reply kept o e =
+    let s : 0 ≡ slot = ap slot_in e in
+    let c : cmds.Subscribe watch ≡ order.cmd = ap cmd_in e in
+    (subst (λ z. Minds arms slot z) c tt, subst (λ z. arms_after slot z reply.said arms ≡ arms_said 0 reply.said []) c (λ i. arms_said (sym s i) reply.said (o i)))
+runs zero noreply count (x ∷ RanSlot t r q ∷ more) arms slot order reply kept o e = no_run (Ends (kept_end r.said q)) slot order refl e
+runs zero noreply count (x ∷ SawNames p n ∷ more) arms slot order reply kept o e = no_run (Ends Wanting) slot order refl e
+runs zero noreply count (x ∷ Clocked t ∷ more) arms slot order reply kept o e = no_run (Ends Wanting) slot order refl e
+runs zero noreply count (x ∷ SawSlot s l ∷ more) arms slot order reply kept o e = no_run (Ends Wanting) slot order refl e
+runs zero noreply count (x ∷ ChangedNames p r ∷ more) arms slot order reply kept o e = no_run (Ends Wanting) slot order refl e
+runs zero noreply count (x ∷ Rolled b ∷ more) arms slot order reply kept o e = no_run (Ends Wanting) slot order refl e
+runs (suc n) noreply count [] arms slot order reply kept o e = no_run LookNames slot order refl e
+runs (suc n) noreply count (x ∷ more) arms slot order reply kept o e = no_run (Ends (One (number (pos n)))) slot order refl e
+
+finds : (plan : ℕ) (noreply : Bool) (count : ℕ) (found : List Found) (arms : List Arm) (x : Found) → comes_by plan noreply count found arms → IsOther x → comes_by plan noreply count (found ++ x ∷ []) arms
+finds plan noreply count [] arms x o h = o
+finds plan noreply count (y ∷ []) arms (RanSlot slot r kept) o h = absurd h
+finds plan noreply count (y ∷ []) arms other o h = o
+finds plan noreply count (y ∷ RanSlot slot r kept ∷ more) arms x o h = o
+finds plan noreply count (y ∷ z ∷ more) arms x o h = o
+
+-- what a Subscribe's answer leads to
+arms_end : (s : Said Summary Plain) (σ φ : ℕ) → has_arm σ φ (arms_in (feed_end s)) ≡ true → has_arm σ φ (arms_said 0 s []) ≡ true
+arms_end (said.Opened f o) σ φ h = h
+arms_end other σ φ h = absurd (true≢false (sym h))
+
+arms_kept : (s : Said Summary Plain) (kept : Saved) (σ φ : ℕ) → has_arm σ φ (arms_in (kept_end s kept)) ≡ true → has_arm σ φ (arms_said 0 s []) ≡ true
+arms_kept s saved.Yes σ φ h = arms_end s σ φ h
+arms_kept s saved.Failed σ φ h = absurd (true≢false (sym h))
+arms_kept s saved.Memory σ φ h = absurd (true≢false (sym h))
+
+items_end : (s : Said Summary Plain) (kept : Saved) → AreAside (items_in (kept_end s kept))
+items_end (said.Opened f o) saved.Yes = tt
+items_end other saved.Yes = tt
+items_end s saved.Failed = tt
+items_end s saved.Memory = tt
+
+abbrev Within : List Arm → List Arm → Type 0
+Within feed arms = (σ φ : ℕ) → has_arm σ φ feed ≡ true → has_arm σ φ arms ≡ true
+
+no_arms : (arms : List Arm) → Within [] arms
+no_arms arms σ φ h = absurd (true≢false (sym h))
+
+by_move : (m : Move) (arms feed : List Arm) (notes : List ℕ) (items : List Shown) → m ≡ Ends (Feed feed notes items) → Within (arms_in (answered_in m)) arms → AreAside (items_in (answered_in m)) → Within feed arms × AreAside items
+by_move m arms feed notes items e w a = (
+  (λ σ φ h. w σ φ (subst (λ z. has_arm σ φ z ≡ true) (sym (ap (λ z. arms_in (answered_in z)) e)) h)),
+  subst AreAside (ap (λ z. items_in (answered_in z)) e) a,
+)
+
+ends : (plan : ℕ) (noreply : Bool) (count : ℕ) (found : List Found) (arms feed : List Arm) (notes : List ℕ) (items : List Shown) → comes_by plan noreply count found arms → next plan found ≡ Ends (Feed feed notes items) → Within feed arms × AreAside items
+ends zero noreply count [] arms feed notes items o e = by_move LookNames arms feed notes items e (no_arms arms) tt
+ends zero noreply count (x ∷ []) arms feed notes items o e = by_move (RunSlot 0 subscribe) arms feed notes items e (no_arms arms) tt
+ends zero noreply count (x ∷ RanSlot t r kept ∷ more) arms feed notes items o e =
+    by_move (Ends (kept_end r.said kept)) arms feed notes items e (λ σ φ h. subst (λ z. has_arm σ φ z ≡ true) (sym o) (arms_kept r.said kept σ φ h)) (items_end r.said kept)
+ends zero noreply count (x ∷ SawNames p n ∷ more) arms feed notes items o e = by_move (Ends Wanting) arms feed notes items e (no_arms arms) tt
+ends zero noreply count (x ∷ Clocked t ∷ more) arms feed notes items o e = by_move (Ends Wanting) arms feed notes items e (no_arms arms) tt
+ends zero noreply count (x ∷ SawSlot s l ∷ more) arms feed notes items o e = by_move (Ends Wanting) arms feed notes items e (no_arms arms) tt
+ends zero noreply count (x ∷ ChangedNames p r ∷ more) arms feed notes items o e = by_move (Ends Wanting) arms feed notes items e (no_arms arms) tt
+ends zero noreply count (x ∷ Rolled b ∷ more) arms feed notes items o e = by_move (Ends Wanting) arms feed notes items e (no_arms arms) tt
+ends (suc n) noreply count [] arms feed notes items o e = by_move LookNames arms feed notes items e (no_arms arms) tt
+ends (suc n) noreply count (x ∷ more) arms feed notes items o e = by_move (Ends (One (number (pos n)))) arms feed notes items e (no_arms arms) tt
+
+pub sample_minds : PlansMind sample comes_by
+sample_minds = record {
+  begins = λ plan noreply count. refl;
+  runs = λ plan noreply count found arms slot order reply kept o e. runs plan noreply count found arms slot order reply kept o e;
+  finds = λ plan noreply count found arms x o h. finds plan noreply count found arms x o h;
+  ends = λ plan noreply count found arms feed notes items o e. ends plan noreply count found arms feed notes items o e;
+}

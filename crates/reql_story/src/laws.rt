@@ -1,0 +1,37 @@
+// Laws of explained sessions.
+ghost use Rattle.reql_hall.specs.Shares.{IsKept};
+ghost use Rattle.reql_story.specs.Explained.{ExplainedBy};
+ghost use Rattle.reql_story.specs.Laws.{InOrder, FramesHandled, OneMore, Learning, NothingLeft, FeedsHold};
+
+use crate::planning::Planning;
+
+/// What came in was handled in order, frame by frame, after a greeting, or is held.
+pub fn in_order<F: Planning>()
+    ensures { InOrder F.talk }
+{}
+
+/// Every whole frame that an explained session was given was handled, in order, unless it ended by a failed send, worn,
+/// or for want of memory: what it held at its end is no whole greeting or frame where its input ended or failed, the
+/// header that is too long, or the greeting that was refused.
+pub fn frames_handled<F: Planning>()
+    ensures { FramesHandled F.talk }
+{}
+
+/// A session that a hall explains is explained, with the same share, by each hall whose histories go on from there.
+pub fn kept<F: Planning>()
+    ensures { IsKept (ExplainedBy F.talk) }
+{}
+
+/// One more session lengthens what a desk did by its share; what the desk learns of others leaves that as it is; and
+/// the desk's own entries and its marks are those of its sessions, in order, with nothing left.
+pub fn joined<F: Planning>()
+    ensures one_more { OneMore F.talk }
+    ensures learning { Learning F.talk }
+    ensures nothing_left { NothingLeft F.talk }
+{}
+
+/// Every feed of an explained session: the fold of the changes that were sent of it, up to any change up to which its
+/// answers are whole, over its value at the opening, is its value there.
+pub fn feeds_hold<F: Planning>()
+    ensures { FeedsHold F.talk }
+{}

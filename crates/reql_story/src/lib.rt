@@ -1,0 +1,17 @@
+//! A session as a story: what it does, event by event, and when a hall explains it. Definitions and laws, no code.
+//!
+//! The machine of a session knows nothing of terms: what a body asks for, and the moves of a plan, are told to it
+//! (`Planning`).
+#![tactic(auto)]
+
+mod end;
+mod laws;
+mod planning;
+mod rows;
+mod sample;
+
+pub use end::End;
+pub use laws::{feeds_hold, frames_handled, in_order, joined, kept};
+pub use planning::Planning;
+pub use rows::worked_rows;
+pub use sample::SamplePlans;
