@@ -1,7 +1,6 @@
 -- Every feed of an explained session: what was sent of it folds to its query.
-use Rattle.std.proofs.Common.{◌≡◌, ◌≤◌, ℕ, zero, suc, Bool, true, false, not, cond, ◌&&◌, map, List, [], ◌∷◌, ◌++◌, length, take, Option, Some, None, refl, sym, ap, subst, ◌∙◌, append_assoc}
+use Rattle.std.proofs.Common.{◌≡◌, ◌≤◌, ℕ, zero, suc, Bool, true, false, not, cond, map, List, [], ◌∷◌, ◌++◌, length, take, Option, Some, None, refl, sym, ap, subst, ◌∙◌, append_assoc}
 use Rattle.std.specs.List.{AllByRecursion}
-use Rattle.std.specs.Prelude.{flat_map}
 use Rattle.std.proofs.lemmas.Grind.{flat_map-append}
 use Rattle.std.proofs.lemmas.Bool.{eq-eqb, ne_eqb}
 use Rattle.std.proofs.lemmas.List.{map-append}
@@ -9,7 +8,6 @@ use Rattle.reql_datum.specs.Plain.{Plain}
 use Rattle.reql_rules.specs.Types.{same_text}
 use Rattle.reql_write_law.specs.declared.command.Summary.{Summary}
 use Rattle.reql_write_law.specs.declared.command.WriteCmd.{WriteCmd}
-use Rattle.reql_shared.specs.declared.engine.Snap.{Snap}
 use Rattle.reql_shared.specs.Machine.{replay}
 use Rattle.reql_shared.specs.Acts.{Act, Ran, Looked, Denied}
 use Rattle.reql_shared.specs.Parts.{Part}
@@ -23,22 +21,21 @@ use Rattle.reql_table_machine.specs.declared.command.Said.TheVariants as said
 use Rattle.reql_table_machine.proofs.Items.{all_left, all_right}
 use Rattle.reql_table_machine.proofs.Numbers.{number_in, number_of, IsNot, OpensFrom, apart, numbers_rise}
 use Rattle.reql_law.specs.Indexes.{Indexes, IndexCmd, create, drop, rename, index_said, is_there, is_taken}
-use Rattle.reql_law.specs.Laws.{History, Done, known_act, docs_at, AreGood, AllFed}
+use Rattle.reql_law.specs.Laws.{History, known_act, docs_at, AreGood, AllFed}
 use Rattle.reql_law.specs.Machine.{State, Seen, machine, known_cmd, known_order, known_entry}
 use Rattle.reql_law.specs.Replies.{Answered as Told}
 use Rattle.reql_law.specs.Table.{Held, held, feeding}
 use Rattle.reql_law.specs.declared.command.Cmd.TheVariants as cmds
 use Rattle.reql_law.specs.declared.command.FeedSpec.{FeedSpec}
 use Rattle.reql_law.specs.declared.command.Order.{Order}
-use Rattle.reql_law.specs.declared.reply.Saved.{Saved}
 use Rattle.reql_law.proofs.Replays.{tables, replay_is}
 use Rattle.reql_law.proofs.Weaves.{woven_known, feeds_fold}
 use Rattle.reql_story.specs.Requests.{Arm, Found}
 use Rattle.reql_story.specs.Tasks.{Talk}
 use Rattle.reql_story.specs.Minding.{PlansMind}
 use Rattle.reql_story.specs.Session.{Event, On, Run, fresh, acts_of, acts_on}
-use Rattle.reql_story.specs.Explained.{DeskShare, DeskSeen, Life, ExplainedBy, sent_of}
-use Rattle.reql_story.specs.Laws.{Opens, FeedsHold}
+use Rattle.reql_story.specs.Explained.{DeskShare, DeskSeen, Life, sent_of}
+use Rattle.reql_story.specs.Laws.{Opens}
 use Rattle.reql_story.proofs.Sendings.{NotOpened}
 use Rattle.reql_story.proofs.Fronts.{NotOpens, known_on, front}
 

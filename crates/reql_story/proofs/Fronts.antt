@@ -4,19 +4,16 @@ use Rattle.std.specs.List.{AllByRecursion}
 use Rattle.std.specs.Prelude.{nat_eq}
 use Rattle.std.proofs.lemmas.Grind.{flat_map-append}
 use Rattle.reql_shared.specs.Acts.{Act, Ran, Looked, Denied}
-use Rattle.reql_law.specs.declared.command.Cmd.{Cmd}
 use Rattle.reql_law.specs.declared.command.Cmd.TheVariants as cmds
 use Rattle.reql_law.specs.declared.command.Order.{Order}
-use Rattle.reql_table_machine.specs.declared.command.Said.{Said}
 use Rattle.reql_table_machine.specs.declared.command.Said.TheVariants as said
 use Rattle.reql_law.specs.Replies.{Answered as Told}
 use Rattle.reql_law.specs.Laws.{known_act}
-use Rattle.reql_law.specs.Machine.{Seen, known_cmd, known_order}
+use Rattle.reql_law.specs.Machine.{Seen, known_cmd}
 use Rattle.reql_law.specs.declared.command.FeedSpec.{FeedSpec}
 use Rattle.reql_law.specs.declared.reply.Saved.{Saved}
 use Rattle.reql_write_law.specs.declared.command.Summary.{Summary}
 use Rattle.reql_datum.specs.Plain.{Plain}
-use Rattle.reql_shared.specs.declared.engine.Snap.{Snap}
 use Rattle.reql_table_machine.specs.Fed.{Taking, items_of, given, taking_by, is_end, takings}
 use Rattle.reql_table_machine.proofs.Tracking.{split}
 use Rattle.reql_law.specs.Indexes.{IndexCmd}

@@ -1,6 +1,5 @@
 -- What functions of a session did, one after another.
-use Rattle.std.proofs.Common.{length, ◌≡◌, ℕ, ℤ, ◌+◌, Bool, true, false, ◌||◌, List, [], ◌∷◌, ◌++◌, Option, Some, None, refl, sym, ap, subst, ◌∙◌, arith, append_assoc, append-nil, zero-add}
-use Rattle.std.specs.List.{AllByRecursion}
+use Rattle.std.proofs.Common.{◌≡◌, ℕ, ℤ, ◌+◌, Bool, true, false, ◌||◌, List, [], ◌∷◌, ◌++◌, Option, Some, None, refl, sym, ap, subst, ◌∙◌, arith, append_assoc, append-nil, zero-add}
 use Rattle.std.proofs.lemmas.Grind.{flat_map-append}
 use Rattle.reql_outside.specs.Tape.{Tape, Moves, grown, counted, IsBlank, IsFresh}
 use Rattle.reql_outside.proofs.Moving.{moves_on, moves_next, recv_failed_first, send_failed_first}
@@ -15,9 +14,9 @@ use Rattle.reql_shared.specs.Acts.{Ran}
 use Rattle.reql_table_machine.proofs.Items.{all_append}
 use Rattle.reql_story.specs.Requests.{Arm}
 use Rattle.reql_story.specs.Tasks.{Talk}
-use Rattle.reql_story.specs.Session.{Event, Finish, On, Leaving, Mach, fresh, Run, heard, heard_of, idles, turns, over, clocked, clocked_of, rolled, rolled_of, acts_of, acts_on, names_of, acts_on_names}
+use Rattle.reql_story.specs.Session.{Event, Finish, On, Leaving, Mach, fresh, Run, heard, heard_of, idles, turns, over, clocked_of, rolled_of, acts_of, acts_on, names_of, acts_on_names}
 use Rattle.reql_story.specs.Explained.{IsHonest, AreHonest, Says, Wears}
-use Rattle.reql_story.specs.Worlds.{Place, share_of, sound_at, with_out, faulted, faults_in_at, faults_out_at, IsTold, DeskPlays, Does, Goes, Why, Ended, IsExplained}
+use Rattle.reql_story.specs.Worlds.{Place, sound_at, with_out, faulted, faults_in_at, faults_out_at, IsTold, DeskPlays, Does, Goes, Why, Ended, IsExplained}
 use Rattle.reql_story.specs.declared.end.End.{End}
 use Rattle.reql_story.specs.declared.end.End.TheVariants as ends
 

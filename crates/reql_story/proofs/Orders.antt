@@ -4,7 +4,7 @@ use Rattle.std.proofs.lemmas.List.{take-append-drop}
 use Rattle.reql_wire.specs.Frames.{spelling, spellings}
 use Rattle.reql_shared.specs.Acts.{Ran, Looked, Denied}
 use Rattle.reql_story.specs.Books.{Books}
-use Rattle.reql_story.specs.Laws.{Handled, InOrder}
+use Rattle.reql_story.specs.Laws.{Handled}
 use Rattle.reql_story.specs.Tasks.{Talk}
 use Rattle.reql_story.specs.Session.{Event, Turn, Visit, Greeted, Begin, Heard, Lost, Quiet, Finish, Broken, Long, Wear, Poor, On, OnNames, Dice, Clock, Come, Say, Want, Mach, Run, heard, begun, tells}
 

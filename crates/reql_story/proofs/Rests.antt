@@ -1,14 +1,11 @@
 -- What is held when a session leaves.
-use Rattle.std.proofs.Common.{◌≡◌, ℕ, Bool, true, false, List, [], ◌∷◌, Option, Some, None, refl, sym, ap, subst, ◌∙◌, inl, inr}
+use Rattle.std.proofs.Common.{ℕ, Bool, true, false, List, [], ◌∷◌, Option, Some, None, refl, sym, subst, inl, inr}
 use Rattle.reql_shared.specs.Acts.{Ran, Looked, Denied}
 use Rattle.reql_story.specs.Requests.{Arm, SawNames, Clocked, SawSlot, ChangedNames, Rolled}
 use Rattle.reql_story.specs.Books.{saw_names}
 use Rattle.reql_story.specs.Tasks.{Talk, Task, Next, visit, takes_up, ran, found_more, wanted, denied, told, comes_to, batch_size}
-use Rattle.reql_story.specs.Session.{Event, Turn, Visit, Greeted, Begin, Heard, Lost, Quiet, Finish, Broken, Long, Wear, Poor, On, OnNames, Dice, Clock, Come, Say, Want, Doing, Rest, Visits, Busy, Leaving, Mach, doing_next, goes_on, end_of, fresh, Unread, Step, Run, LeavesArm}
-use Rattle.reql_story.specs.Explained.{DeskShare, Life, Explained}
-use Rattle.reql_story.specs.Laws.{LeftAs, Handled, FramesHandled}
-use Rattle.reql_story.specs.declared.end.End.{End}
-use Rattle.reql_story.specs.declared.end.End.TheVariants as ends
+use Rattle.reql_story.specs.Session.{Event, Turn, Visit, Greeted, Begin, Heard, Lost, Quiet, Finish, Broken, Long, Wear, Poor, On, OnNames, Dice, Clock, Come, Say, Want, Doing, Leaving, Mach, doing_next, goes_on, end_of, fresh, Unread, Step, Run, LeavesArm}
+use Rattle.reql_story.specs.Laws.{LeftAs, FramesHandled}
 use Rattle.reql_story.proofs.Orders.{handled}
 
 module _ {PL : Type 0} (k : Talk PL) where

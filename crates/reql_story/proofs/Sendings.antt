@@ -12,7 +12,6 @@ use Rattle.reql_law.specs.Replies.{Answered as Told}
 use Rattle.reql_law.specs.Machine.{known_cmd}
 use Rattle.reql_law.specs.declared.reply.Saved.{Saved}
 use Rattle.reql_write_law.specs.declared.command.Summary.{Summary}
-use Rattle.reql_write_law.specs.declared.command.WriteCmd.{WriteCmd}
 use Rattle.reql_answer.specs.Body.{Stamped}
 use Rattle.reql_answer.specs.declared.error.ErrorType.TheVariants as errors
 use Rattle.reql_datum.specs.Plain.{Plain}

@@ -6,15 +6,13 @@ use Rattle.reql_law.specs.declared.command.Cmd.{Cmd}
 use Rattle.reql_law.specs.declared.command.Cmd.TheVariants as cmds
 use Rattle.reql_datum.specs.declared.point.Point.{Point}
 use Rattle.reql_answer.specs.Body.{Stamped}
-use Rattle.reql_answer.specs.declared.error.ErrorType.TheVariants as errors
 use Rattle.reql_datum.specs.Plain.{Plain}
-use Rattle.reql_law.specs.declared.reply.Saved.{Saved}
 use Rattle.reql_table_machine.proofs.Items.{all_take, all_drop}
 use Rattle.reql_table_machine.proofs.Tracking.{split}
-use Rattle.reql_story.specs.Requests.{Asked, Unreadable, Unplanned, Start, Continue, Stop, NoreplyWait, ServerInfo, Arm, Shown, Answered, Unsent, One, Stream, Feed, Fault, Wanting, Ends, Found, Answer, Client, Compile, Failed, Internal, Last, Part, Batch, points_from, stamped}
+use Rattle.reql_story.specs.Requests.{Asked, Unreadable, Unplanned, Start, Continue, Stop, NoreplyWait, ServerInfo, Arm, Shown, Answered, Unsent, One, Stream, Feed, Fault, Wanting, Ends, Found, Answer, Client, Compile, Internal, Last, Part, Batch, points_from, stamped}
 use Rattle.reql_story.specs.Books.{Cursor, Open, Books, has_token, without, cursor_of, feed_of, is_open, opened, closed, with_rest, with_left, with_cursor, with_feed}
-use Rattle.reql_story.specs.Tasks.{Talk, Firm, Stops, Drops, Settled, Task, Planning, Visiting, Telling, Closing, Next, done, at, only_tell, may_tell, close, internal_for, wanted, denied, arms_denied, told, stop_feed, stop, cut, tell, tell_now, comes_to, continue_left, continue_feed, continue_on, visit_feed, visit, refuse, begin, takes_up, is_long, cut_to, fitted, settle, seen_in}
-use Rattle.reql_story.specs.Bodies.{body, in_use, not_open, at_wait, too_long}
+use Rattle.reql_story.specs.Tasks.{Talk, Firm, Stops, Drops, Settled, Task, Planning, Visiting, Telling, Closing, Next, done, at, only_tell, may_tell, close, internal_for, wanted, denied, arms_denied, told, stop_feed, stop, cut, tell, tell_now, comes_to, continue_left, continue_feed, continue_on, visit_feed, visit, refuse, begin, takes_up, is_long, cut_to, fitted, settle}
+use Rattle.reql_story.specs.Bodies.{body, in_use, at_wait}
 use Rattle.reql_story.specs.Minding.{IsAside, PlansMind}
 use Rattle.reql_story.specs.Explained.{sent_in}
 use Rattle.reql_story.proofs.Shelves.{has_filter, or_false, which, has, of, of_cut, of_aside, IsClean, Cleans, Others, LiveIn, Fine, found_token, which_feed, clean_closed, fine_closed, closes_it, clean_left, live_apart, live_left, fine_more, live_new}

@@ -1,16 +1,12 @@
 -- Laws that carry an explained session upward.
-use Rattle.std.proofs.Common.{◌≡◌, ℕ, List, [], ◌∷◌, ◌++◌, map, refl}
+use Rattle.std.proofs.Common.{List, map}
 use Rattle.reql_shared.specs.Parts.{Part, between}
-use Rattle.reql_catalog.specs.declared.catalog.Catalog.{Catalog}
-use Rattle.reql_catalog.specs.declared.command.CatCmd.{CatCmd}
-use Rattle.reql_hall.specs.Rooms.{Histories, pass, LearnsAll}
-use Rattle.reql_hall.specs.Shares.{Share, Seen, BeginsAll, LiesIn, Grows, share, seen_by, IsKept, Divides, Serves}
+use Rattle.reql_hall.specs.Rooms.{pass}
+use Rattle.reql_hall.specs.Shares.{IsKept, Divides}
 use Rattle.reql_hall.proofs.Joining.{share_lies_longer, serves_more, serves_learnt}
-use Rattle.reql_law.specs.Machine.{State}
-use Rattle.reql_law.specs.declared.command.Order.{Order}
 use Rattle.reql_story.specs.Tasks.{Talk}
-use Rattle.reql_story.specs.Explained.{DeskShare, DeskSeen, Life, ExplainedBy}
-use Rattle.reql_story.specs.Laws.{Desk, OneMore, Learning, NoneLeft, NothingLeft}
+use Rattle.reql_story.specs.Explained.{DeskShare, ExplainedBy}
+use Rattle.reql_story.specs.Laws.{OneMore, Learning, NoneLeft, NothingLeft}
 
 module _ {C S : Type 0} where
   none_left : (whole : Part C S) (parts : List (Part C S)) → Divides whole parts → NoneLeft whole parts

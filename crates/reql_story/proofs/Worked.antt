@@ -1,6 +1,9 @@
 -- The worked rows, by computing.
 use Rattle.std.specs.Prelude.{refl}
-use Rattle.reql_story.specs.Worked.{Opening, Lost, Waiting, Visited, United, Dropped, Streamed}
+use Rattle.std.specs.Fmt.{digits}
+use Rattle.serde_json.proofs.OnLiterals.{serde_json_on_literals}
+use Rattle.reql_story.specs.Bodies.{body}
+use Rattle.reql_story.specs.Worked.{Opening, Lost, Waiting, Visited, United, Dropped, Streamed, Spoken}
 
 pub opening : Opening
 opening = (refl, refl, refl, refl)
@@ -22,3 +25,7 @@ dropped = (refl, refl, refl, refl)
 
 pub streamed : Streamed
 streamed = (refl, refl, refl)
+
+pub spoken : Spoken
+unfolding body serde_json_on_literals digits
+spoken = (refl, refl, refl, refl, refl, refl, refl, refl, refl, refl, refl, refl)

@@ -1,5 +1,5 @@
 -- The bodies of a session's answers, and its texts (RethinkDB's guide on writing drivers; `Response` of ql2.proto).
-use Rattle.std.specs.Prelude.{ℕ, nat_eq, List, [], ◌∷◌, ◌++◌, map, Bool, true, false, cond, ◌||◌, Option, Some, None, codes}
+use Rattle.std.specs.Prelude.{ℕ, nat_eq, List, [], ◌∷◌, ◌++◌, map, Bool, false, cond, ◌||◌, Some, None, codes}
 use Rattle.std.specs.Fmt.{decimal}
 use Rattle.serde_json.specs.Data as json
 use Rattle.reql_json.specs.Showing.{shown, members_of}

@@ -2,8 +2,8 @@
 use Rattle.std.specs.Prelude.{◌≡◌, ◌≤◌, ℕ, ℤ, nat_eq, Bool, true, false, ◌&&◌, cond, List, [], ◌∷◌, ◌++◌, flat_map}
 use Rattle.std.specs.List.{AllByRecursion}
 use Rattle.reql_datum.specs.Plain.{Plain}
-use Rattle.reql_shared.specs.Acts.{Act, Ran}
-use Rattle.reql_shared.specs.Parts.{Part, IsPart}
+use Rattle.reql_shared.specs.Acts.{Ran}
+use Rattle.reql_shared.specs.Parts.{IsPart}
 use Rattle.reql_catalog.specs.Machine.{catalogue_machine}
 use Rattle.reql_catalog.specs.declared.catalog.Catalog.{Catalog}
 use Rattle.reql_catalog.specs.declared.command.CatCmd.{CatCmd}

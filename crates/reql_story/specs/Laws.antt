@@ -11,7 +11,7 @@ use Rattle.reql_shared.specs.Parts.{Part, between}
 use Rattle.reql_catalog.specs.declared.catalog.Catalog.{Catalog}
 use Rattle.reql_catalog.specs.declared.command.CatCmd.{CatCmd}
 use Rattle.reql_hall.specs.Rooms.{Sitting, Histories, pass, LearnsAll}
-use Rattle.reql_hall.specs.Shares.{Share, Grows, share, seen_by, IsKept, Serves}
+use Rattle.reql_hall.specs.Shares.{Grows, share, seen_by, Serves}
 use Rattle.reql_table_machine.specs.Feeding.{fold, bare}
 use Rattle.reql_table_machine.specs.Fed.{upto, Whole, takings}
 use Rattle.reql_table_machine.specs.declared.command.Said.TheVariants as said

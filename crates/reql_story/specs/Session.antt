@@ -1,5 +1,5 @@
 -- The session machine: what a session remembers, and its events.
-use Rattle.std.specs.Prelude.{◌≡◌, ◌⊎◌, ◌≤◌, ◌<◌, ℕ, ℤ, ◌+◌, nat_eq, if◌then◌else◌, Bool, true, false, List, [], ◌∷◌, ◌++◌, length, drop, flat_map, Option, Some, None}
+use Rattle.std.specs.Prelude.{◌≡◌, ◌⊎◌, ◌≤◌, ℕ, ℤ, ◌+◌, nat_eq, if◌then◌else◌, Bool, true, false, List, [], ◌∷◌, ◌++◌, length, drop, flat_map, Option, Some, None}
 use Rattle.reql_wire.specs.Frames.{Fits, NoFrame, Over, spelling, front}
 use Rattle.reql_wire.specs.Frames as frames
 use Rattle.reql_wire.specs.Greeting.{Greets, accepted, refusal}

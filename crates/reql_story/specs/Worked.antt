@@ -1,18 +1,20 @@
 -- Worked rows on the session machine: a feed that waits, a STOP, a drop, items that were skipped, want of memory, a united
 -- feed, cursors; and the bodies of answers.
-use Rattle.std.specs.Prelude.{◌≡◌, ℕ, pos, List, [], ◌∷◌, Bool, true, false, Option, Some, None, codes}
+use Rattle.std.specs.Prelude.{◌≡◌, ℕ, pos, List, [], ◌∷◌, true, false, Some, None, codes}
 use Rattle.reql_datum.specs.Plain.{Plain, null, number}
 use Rattle.reql_answer.specs.declared.error.ErrorType.TheVariants as errors
 use Rattle.reql_feed_law.specs.Shown.{skip_item}
+use Rattle.reql_rules.specs.Lists.{object_of}
+use Rattle.reql_law.specs.Limits.{usual_limits}
 use Rattle.reql_law.specs.Replies.{Answered as Told}
 use Rattle.reql_law.specs.declared.command.Cmd.TheVariants as cmds
 use Rattle.reql_law.specs.declared.reply.Saved.TheVariants as saved
 use Rattle.reql_table_machine.specs.declared.command.Said.TheVariants as said
-use Rattle.reql_story.specs.Requests.{Start, Continue, Stop, Arm, Skip, Change, Shown, Stream, SawNames, RanSlot, Answer, Client, Failed, Internal, Last, Part, Batch, Found, point, stamped}
-use Rattle.reql_story.specs.Books.{Open, Cursor, Books, no_books}
-use Rattle.reql_story.specs.Bodies.{in_use, not_open, at_wait}
-use Rattle.reql_story.specs.Tasks.{Task, Planning, Visiting, Telling, Closing, Stops, Drops, Settled, Next, done, at, only_tell, wanted, denied, told, begin, takes_up, ran, found_more, comes_to, settle, fitted, tell, tell_now}
-use Rattle.reql_story.specs.Sample.{sample, watch, subscribe, dropped, feed_end, kept_end, next}
+use Rattle.reql_story.specs.Requests.{Start, Continue, Stop, Arm, Skip, Change, Shown, Stream, SawNames, RanSlot, Answer, Client, Failed, Internal, Atom, Last, Part, Batch, Waited, Info, Found, point, stamped}
+use Rattle.reql_story.specs.Books.{Open, Books, no_books}
+use Rattle.reql_story.specs.Bodies.{body, in_use, not_open, at_wait}
+use Rattle.reql_story.specs.Tasks.{Talk, is_long, cut_to, Task, Planning, Visiting, Telling, Closing, Stops, Drops, Settled, done, at, only_tell, wanted, denied, told, begin, takes_up, ran, found_more, comes_to, fitted, tell, tell_now}
+use Rattle.reql_story.specs.Sample.{sample, watch, dropped, feed_end, kept_end}
 use Rattle.reql_catalog.specs.Machine.{no_names}
 
 abbrev arm : Arm
@@ -133,3 +135,28 @@ Streamed =
     (comes_to sample looked 2 2 (seen ∷ []) [] (Stream three) ≡ tell sample looked 2 (Part (number (pos 1) ∷ number (pos 2) ∷ []) (Some (stamped 5 []))) cursor_books [] None)
     × (begin sample cursor_books 2 Continue ≡ tell sample cursor_books 2 (Last (number (pos 3) ∷ []) None) looked [] None)
     × (begin sample cursor_books 2 Stop ≡ at cursor_books (Telling 2 (Last [] None) looked None None))
+
+-- the bodies of answers, and an answer that is too long for its limit with the fault that it gives way to
+abbrev inserted : Answer
+inserted = Batch (4 ∷ []) (record { at = 1; arm = second; sort = Change; stamp = 1; item = changed } ∷ []) (Some (stamped 0 (point 0 1 0 ∷ point 1 3 1 ∷ [])))
+  where
+    changed : Plain
+    changed = object_of ((codes "new_val", object_of ((codes "id", number (pos 1)) ∷ [])) ∷ (codes "old_val", null) ∷ [])
+
+abbrev small : Talk ℕ
+small = record sample { limits = record usual_limits { answer = 20 } }
+
+abbrev pub Spoken : Type 0
+Spoken =
+    (body (Last [] None) ≡ codes "{\"n\":[],\"r\":[],\"t\":2}")
+    × (body Waited ≡ codes "{\"n\":[],\"r\":[],\"t\":4}")
+    × (body Info ≡ codes "{\"n\":[],\"r\":[{\"id\":\"00000000-0000-0000-0000-000000000000\",\"name\":\"reqld\",\"proxy\":false}],\"t\":5}")
+    × (body Internal ≡ codes "{\"b\":[],\"e\":1000000,\"r\":[\"Out of memory.\"],\"t\":18}")
+    × (body (Client (not_open 7)) ≡ codes "{\"b\":[],\"r\":[\"Token 7 has no open cursor.\"],\"t\":16}")
+    × (body (Atom null (stamped 0 (point 0 0 0 ∷ []))) ≡ codes "{\"n\":[],\"r\":[null],\"s\":{\"c\":0,\"t\":[[0,0,0]]},\"t\":1}")
+    × (body (Part (number (pos 1) ∷ number (pos 2) ∷ []) None) ≡ codes "{\"n\":[],\"r\":[1,2],\"t\":3}")
+    × (body inserted ≡ codes "{\"a\":[1],\"f\":[1],\"n\":[4],\"r\":[{\"new_val\":{\"id\":1},\"old_val\":null}],\"s\":{\"c\":0,\"t\":[[0,1,0],[1,3,1]]},\"t\":3}")
+    × (body (Failed errors.OpFailed dropped (Some (stamped 1 (point 0 2 0 ∷ [])))) ≡ codes "{\"b\":[],\"e\":4100000,\"r\":[\"Table `test.docs` was dropped.\"],\"s\":{\"c\":1,\"t\":[[0,2,0]]},\"t\":18}")
+    × (is_long sample (Last [] None) ≡ false)
+    × (is_long small (Last [] None) ≡ true)
+    × (cut_to small (Atom null (stamped 0 [])) ≡ Failed errors.ResourceLimit (codes "Answer over size limit `20`.") (Some (stamped 0 [])))

@@ -1,5 +1,5 @@
 -- What functions of a session say of themselves: moves on the desk, whole steps, and ends.
-use Rattle.std.specs.Prelude.{◌≡◌, ◌≤◌, ◌<◌, ◌||◌, ℕ, ℤ, Bool, true, false, List, [], ◌++◌, length, Option, Some, None}
+use Rattle.std.specs.Prelude.{◌≡◌, ◌<◌, ◌||◌, ℕ, ℤ, Bool, true, false, List, [], ◌++◌, length, Option, Some, None}
 use Rattle.reql_outside.specs.Tape.{Tape, Moves, recv_failed, send_failed, counted}
 use Rattle.reql_wire.specs.Frames.{Over}
 use Rattle.reql_wire.specs.Greeting.{Greets}
