@@ -1,0 +1,10 @@
+use Rattle.std.proofs.Common.{◌≡◌, ◌-◌, drop, length}
+use Rattle.reql_term.specs.Form.{forms_of}
+use Rattle.reql_faults.specs.Shapes.{are_ranges}
+use Rattle.reql_faults.proofs.shape.are_ranges.Given as goal
+
+abbrev pub invariant-loop-term : goal.invariant-loop-term
+invariant-loop-term l = are_ranges (forms_of l.terms) ≡ are_ranges (forms_of (drop l.place l.terms))
+
+abbrev pub decreases-loop-term : goal.decreases-loop-term
+decreases-loop-term l = length l.terms - l.place

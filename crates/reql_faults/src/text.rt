@@ -1,0 +1,48 @@
+// What a client is told of a fault of planning.
+ghost use Rattle.std.specs.Prelude.{◌≡◌, IfOk};
+ghost use Rattle.reql_faults.specs.Texts.{unbound_text, fault_text, answer_type};
+
+use crate::fault::CompileFault;
+use reql_datum::{Memory, Name};
+use std::alloc::Global;
+
+fn unbound(alloc: Global, id: u64) -> Result<Name, Memory>
+    ensures { IfOk result (λ s. s ≡ unbound_text id) }
+{
+    let text = format!(in alloc; "Unbound variable {}.", id)?;
+    Name::of(alloc, text.as_str())
+}
+
+impl CompileFault {
+    /// The text that a client is told.
+    pub fn text(&self, alloc: Global) -> Result<Name, Memory>
+        ensures { IfOk result (λ s. s ≡ fault_text self.now) }
+    {
+        match self {
+            CompileFault::Unbound(id) => unbound(alloc, *id),
+            CompileFault::WriteNested => Name::of(alloc, "Write or command inside another term."),
+            CompileFault::TableNotLiteral => Name::of(alloc, "Name is not a literal text."),
+            CompileFault::FeedShape => Name::of(alloc, "Changes cannot follow this term."),
+            CompileFault::OffsetsNeedLimit => Name::of(
+                alloc,
+                "include_offsets needs order_by with an index and limit.",
+            ),
+            CompileFault::Memory => Name::of(alloc, "Out of memory."),
+        }
+    }
+
+    /// The type of the answer that tells it (`ql2.proto`): 17, a compile error, and 18, a runtime
+    /// error, where memory ran out.
+    pub fn answer_type(&self) -> u8
+        ensures { result ≡ answer_type self.now }
+    {
+        match self {
+            CompileFault::Memory => 18,
+            CompileFault::Unbound(_)
+            | CompileFault::WriteNested
+            | CompileFault::TableNotLiteral
+            | CompileFault::FeedShape
+            | CompileFault::OffsetsNeedLimit => 17,
+        }
+    }
+}
