@@ -3,7 +3,8 @@ use reql_datum::{Datum, Items};
 use reql_table::{Change, Table, TableView};
 use std::alloc::Global;
 
-fn change(document: &Datum) -> Option<Change> {
+/// The change that puts a document in.
+pub(crate) fn change(document: &Datum) -> Option<Change> {
     let key = match document {
         Datum::Obj(fields) => fields.get("id")?.copy().ok()?,
         _ => return None,
