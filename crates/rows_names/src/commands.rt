@@ -35,11 +35,9 @@ fn command(items: &Items) -> Option<CatCmd> {
 // The pairs of names of the tables that a catalogue opens with.
 fn opening(alloc: Global, pairs: &Items) -> Option<Vec<(Name, Name)>> {
     let mut tables = Vec::new(alloc);
-    let mut place = 0;
-    while let Some(pair) = pairs.at(place) {
+    for pair in pairs.as_slice() {
         let pair = list(pair)?;
         tables.push((name_at(pair, 0)?, name_at(pair, 1)?)).ok()?;
-        place += 1;
     }
     Some(tables)
 }
@@ -72,14 +70,12 @@ fn said(alloc: Global, said: &CatSaid) -> Option<String> {
 // Gives the commands to a catalogue, in order, and writes what each is answered.
 fn run(alloc: Global, catalogue: &mut Catalogue, commands: &Items) -> Option<String> {
     let mut answers = String::new(alloc);
-    let mut place = 0;
-    while let Some(written) = commands.at(place) {
+    for written in commands.as_slice() {
         let reply = catalogue.apply(0, command(list(written)?)?).ok()?;
-        if place > 0 {
+        if !answers.is_empty() {
             answers.push_str(", ").ok()?;
         }
         answers.push_str(&said(alloc, &reply.said)?).ok()?;
-        place += 1;
     }
     Some(answers)
 }
