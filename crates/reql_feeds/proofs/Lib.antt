@@ -1,0 +1,13 @@
+mod Rising
+mod Places
+mod Plans
+mod Queues
+mod Pushes
+mod Turned
+mod Halves
+mod Drafts
+mod Landings
+mod Machine
+mod Answered
+mod Takes
+mod Takings
