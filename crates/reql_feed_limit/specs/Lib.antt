@@ -1,0 +1,16 @@
+pub mod Order
+pub mod Feed
+pub mod Seen
+pub mod Bounded
+pub mod Selection
+pub mod Edits
+pub mod Items
+pub mod Differs
+pub mod Boundary
+pub mod Bounds
+pub mod Stands
+pub mod Walk
+pub mod Opening
+pub mod Tree
+pub mod Deciding
+pub mod Inside

@@ -1,0 +1,19 @@
+//! Limit feeds: the first so many documents of an order, kept up to date by at most one look at its
+//! tree a change.
+#![tactic(auto)]
+
+mod bounds;
+mod deciding;
+mod element;
+mod feed;
+mod held;
+mod nearest;
+mod order;
+mod pairs;
+mod printing;
+mod reading;
+mod search;
+
+pub use element::{Element, LimitStep, Placed};
+pub use feed::LimitFeed;
+pub use order::{Order, Part};
