@@ -1,0 +1,247 @@
+-- The feeds that CHANGES asks for: the term of each with the data of its arguments in their places, tested as its row says, and the options.
+use Rattle.std.specs.Prelude.{ℕ, ℤ, pos, negsuc, List, [], ◌∷◌, Option, Some, None, option_and_then, Bool, true, false, ◌&&◌, if◌then◌else◌, nat_le, nat_lt, Ok, Err, codes}
+use Rattle.std.specs.Option.{unwrap_or}
+use Rattle.reql_datum.specs.Answer.{Answer, ◌>>=◌}
+use Rattle.reql_datum.specs.Keys.{is_key}
+use Rattle.reql_datum.specs.Kinds.{is_storable}
+use Rattle.reql_datum.specs.Members.{find}
+use Rattle.reql_datum.specs.Plain.{Plain, boolean, number}
+use Rattle.reql_term.specs.Form.{Form, literal, slot, operation, Forms, no_forms, form, NamedForms, forms_of, named_of}
+use Rattle.reql_term.specs.Table.{way_of}
+use Rattle.reql_term.specs.Views.{Index}
+use Rattle.reql_term.specs.declared.op.Op.{Op}
+use Rattle.reql_term.specs.declared.op.Op.TheVariants as op
+use Rattle.reql_term.specs.declared.role.Way.{Way}
+use Rattle.reql_term.specs.declared.role.Way.TheVariants as way
+use Rattle.reql_rules.specs.Faults.{misplaced, misplaced_order, bad_option, negative_count}
+use Rattle.reql_rules.specs.Lists.{Bytes}
+use Rattle.reql_rules.specs.Types.{as_number, same_text, text_in}
+use Rattle.reql_faults.specs.Places.{first, second, option}
+use Rattle.reql_faults.specs.Shapes.{shape}
+use Rattle.reql_faults.specs.declared.shape.Shape.{Shape}
+use Rattle.reql_faults.specs.declared.shape.Shape.TheVariants as shapes
+use Rattle.reql_value.specs.Meant.{one, given, Given, Options}
+use Rattle.reql_value.specs.Tables.{key_if, may_bound}
+use Rattle.reql_value.specs.Wanted.{index_text, left_is_open, right_is_open, seen}
+use Rattle.reql_value.specs.World.{World, View, view_at}
+use Rattle.reql_write_law.specs.Selecting.{slots}
+use Rattle.reql_feed_law.specs.declared.kind.FeedKind.{FeedKind}
+use Rattle.reql_feed_law.specs.declared.kind.FeedKind.TheVariants as kinds
+use Rattle.reql_law.specs.Followed.{arguments, options, first_slot, shape_index}
+use Rattle.reql_law.specs.declared.command.FeedSpec.{FeedSpec}
+use Rattle.reql_plan_law.specs.declared.parts.Opening.{Opening}
+use Rattle.reql_plan_law.specs.Held.{Held, key_of}
+use Rattle.reql_plan_law.specs.Reads.{args_of, options_of}
+use Rattle.reql_plan_law.specs.Settled.{there, settled, options_given, truth_option, truth_in}
+use Rattle.reql_plan_law.specs.Texts.{over_limit, multi_feed}
+
+-- ---- the tests of a term whose arguments have their data, in the order of its row
+abbrev pub literal_in : Form → Answer Plain
+literal_in (literal d) = Ok d
+literal_in f = Err misplaced
+
+abbrev pub literals : List (Bytes × Form) → Answer Options
+literals [] = Ok []
+literals (m ∷ ms) = literal_in m.1 >>= λ d. literals ms >>= λ os. Ok ((m.0, given (one d)) ∷ os)
+
+abbrev pub tested : (Plain → Answer Plain) → Form → Answer (Unit {0})
+tested test f = literal_in f >>= test >>= λ _. Ok tt
+
+abbrev pub all_tested : (Plain → Answer Plain) → List Form → Answer (Unit {0})
+all_tested test [] = Ok tt
+all_tested test (f ∷ fs) = tested test f >>= λ _. all_tested test fs
+
+abbrev pub get_test : List Form → Answer (Unit {0})
+get_test (t ∷ k ∷ []) = tested (key_if is_key) k
+get_test fs = Err misplaced
+
+abbrev pub keys_test : List Form → List (Bytes × Form) → Answer (Unit {0})
+keys_test [] ms = Err misplaced
+keys_test (t ∷ ks) ms = do
+  _ ← all_tested (key_if is_storable) ks
+  os ← literals ms
+  _ ← index_text os
+  Ok tt
+
+abbrev pub between_test : List Form → List (Bytes × Form) → Answer (Unit {0})
+between_test (t ∷ l ∷ h ∷ []) ms = do
+  _ ← tested (key_if may_bound) l
+  _ ← tested (key_if may_bound) h
+  os ← literals ms
+  _ ← index_text os
+  _ ← left_is_open os
+  _ ← right_is_open os
+  Ok tt
+between_test fs ms = Err misplaced
+
+-- the name that an order goes by, which may stand under ASC or DESC
+abbrev pub name_in : Form → Option Bytes
+name_in (literal d) = text_in d
+name_in f = None
+
+abbrev pub is_direction : Way → Bool
+is_direction way.Rising = true
+is_direction way.Falling = true
+is_direction w = false
+
+abbrev pub name_under : Bool → Option Form → Option Bytes
+name_under true (Some f) = name_in f
+name_under d f = None
+
+abbrev pub order_name : Form → Option Bytes
+order_name (operation o fs ms) = name_under (is_direction (way_of o)) (first fs)
+order_name f = name_in f
+
+abbrev pub index_or : Option Bytes → Answer Bytes
+index_or None = Err (bad_option (codes "index"))
+index_or (Some name) = Ok name
+
+abbrev pub name_of_order : Form → Answer Bytes
+name_of_order f = there (option (codes "index") (options_of f)) >>= λ g. index_or (order_name g)
+
+-- ORDER_BY's index is that of the BETWEEN under it, which is the key field where it names none
+abbrev pub is_between : Op → Bool
+is_between op.Between = true
+is_between o = false
+
+abbrev pub between_name : Bytes → Form → Option Bytes
+between_name key (operation o fs ms) = if is_between o then Some (unwrap_or (option_and_then name_in (option (codes "index") ms)) key) else None
+between_name key f = None
+
+abbrev pub agrees : Bytes → Option Bytes → Answer (Unit {0})
+agrees name None = Ok tt
+agrees name (Some other) = if same_text name other then Ok tt else Err misplaced_order
+
+abbrev pub order_test : (ℕ → Bytes) → List Form → List (Bytes × Form) → Answer (Unit {0})
+order_test field (f ∷ []) ms = do
+  i ← there (find (codes "index") ms)
+  name ← index_or (order_name i)
+  agrees name (between_name (field (first_slot (slots f))) f)
+order_test field fs ms = Err misplaced
+
+abbrev pub natural : ℤ → Answer ℕ
+natural (pos n) = if nat_le n 100000 then Ok n else Err over_limit
+natural (negsuc n) = Err negative_count
+
+abbrev pub count_in : Form → Answer ℕ
+count_in f = literal_in f >>= as_number >>= natural
+
+-- no limit feed goes over a multi index; where its index isn't there, Subscribe tells
+abbrev pub is_multi : Option Index → Bool
+is_multi None = false
+is_multi (Some i) = i.1
+
+abbrev pub single : World → Form → Answer (Unit {0})
+single w f = do
+  v ← view_at w (first_slot (slots f))
+  name ← name_of_order f
+  if is_multi (find name v.indexes) then Err multi_feed else Ok tt
+
+abbrev pub limit_test : World → List Form → Answer (Unit {0})
+limit_test w (f ∷ c ∷ []) = count_in c >>= λ _. single w f
+limit_test w fs = Err misplaced
+
+abbrev pub row_test : World → (ℕ → Bytes) → Op → List Form → List (Bytes × Form) → Answer (Unit {0})
+row_test w field op.Get fs ms = get_test fs
+row_test w field op.GetAll fs ms = keys_test fs ms
+row_test w field op.Between fs ms = between_test fs ms
+row_test w field op.OrderBy fs ms = order_test field fs ms
+row_test w field op.Limit fs ms = limit_test w fs
+row_test w field o fs ms = Ok tt
+
+-- ---- the options, in the order of the row; those of `squash` and `include_offsets` are literals
+pub record Told : Type 0 where
+  pub size : ℕ
+  pub initial : Bool
+  pub states : Bool
+  pub types : Bool
+  pub offsets : Bool
+  pub squash : Bool
+
+abbrev pub literal_truth : Bytes → Option Form → Answer Bool
+literal_truth name None = Ok false
+literal_truth name (Some (literal (boolean b))) = Ok b
+literal_truth name (Some f) = Err (bad_option name)
+
+abbrev pub size_by : Option Plain → Answer ℕ
+size_by (Some (number (pos n))) = if nat_le 1 n && nat_le n 1000000 then Ok n else Err (bad_option (codes "changefeed_queue_size"))
+size_by d = Err (bad_option (codes "changefeed_queue_size"))
+
+abbrev pub size_given : Option Given → Answer ℕ
+size_given None = Ok 100000
+size_given (Some g) = size_by (seen g)
+
+abbrev pub told : NamedForms → Options → Answer Told
+told ms os = do
+  squash ← literal_truth (codes "squash") (option (codes "squash") ms)
+  size ← size_given (find (codes "changefeed_queue_size") os)
+  initial ← truth_option (codes "include_initial") os
+  states ← truth_option (codes "include_states") os
+  offsets ← literal_truth (codes "include_offsets") (option (codes "include_offsets") ms)
+  types ← truth_option (codes "include_types") os
+  Ok (record { size = size; initial = initial; states = states; types = types; offsets = offsets; squash = squash })
+
+-- ---- the feeds, one for each arm
+pub record Feeding : Type 0 where
+  pub openings : List Opening
+  pub note : ℕ
+  pub told : Told
+
+abbrev pub opening : Held → Told → Form → Option Bytes → FeedKind → Opening
+opening e t f index kind = record {
+  slot = first_slot (slots f);
+  spec = record { key = key_of e.names (first_slot (slots f)); shape = f; index = index; kind = kind; size = t.size; offsets = t.offsets; types = t.types; squash = t.squash };
+}
+
+abbrev pub range_opening : Held → Told → Form → Answer Opening
+range_opening e t f = shape_index f >>= λ index. Ok (opening e t f index kinds.Range)
+
+abbrev pub range_openings : Held → Told → List Form → Answer (List Opening)
+range_openings e t [] = Ok []
+range_openings e t (f ∷ fs) = range_opening e t f >>= λ o. range_openings e t fs >>= λ os. Ok (o ∷ os)
+
+abbrev pub limit_opening : Held → Told → Form → Answer Opening
+limit_opening e t f = do
+  order ← there (first (args_of f))
+  name ← name_of_order order
+  c ← there (second (args_of f))
+  count ← count_in c
+  Ok (opening e t f (Some name) (kinds.Limit count))
+
+abbrev pub openings : Held → Told → Shape → List Form → Answer (List Opening)
+openings e t shapes.Point (f ∷ []) = Ok (opening e t f None kinds.Point ∷ [])
+openings e t shapes.Limit (f ∷ []) = limit_opening e t f >>= λ o. Ok (o ∷ [])
+openings e t s fs = range_openings e t fs
+
+-- the notes of answers (`ql2.proto`, Response.ResponseNote)
+abbrev pub note_of : Shape → ℕ
+note_of shapes.Range = 1
+note_of shapes.Point = 2
+note_of shapes.Limit = 3
+note_of shapes.United = 4
+
+abbrev pub feed_settled : Held → Form → Answer Form
+feed_settled e f = settled (row_test e.world (key_of e.names)) e.world f
+
+abbrev pub all_settled : Held → Forms → Answer (List Form)
+all_settled e no_forms = Ok []
+all_settled e (form f fs) = feed_settled e f >>= λ g. all_settled e fs >>= λ gs. Ok (g ∷ gs)
+
+-- the arms of a united feed are settled in order, and then the options of its UNION
+abbrev pub followed : Held → Shape → Form → Answer (List Form)
+followed e shapes.United f = all_settled e (args_of f) >>= λ gs. options_given e.world (options_of f) >>= λ _. Ok gs
+followed e s f = feed_settled e f >>= λ g. Ok (g ∷ [])
+
+abbrev pub shape_there : Option Shape → Answer Shape
+shape_there None = Err misplaced
+shape_there (Some s) = Ok s
+
+abbrev pub feeding : Held → Forms → NamedForms → Answer Feeding
+feeding e fs ms = do
+  f ← there (first fs)
+  s ← shape_there (shape f)
+  gs ← followed e s f
+  os ← options_given e.world ms
+  t ← told ms os
+  opened ← openings e t s gs
+  Ok (record { openings = opened; note = note_of s; told = t })

@@ -1,0 +1,14 @@
+pub mod Move
+pub mod Request
+pub mod Reads
+pub mod Held
+pub mod Settled
+pub mod Texts
+pub mod Keys
+pub mod Summed
+pub mod Writes
+pub mod Commands
+pub mod Feeding
+pub mod Course
+pub mod Worked
+pub mod Minds

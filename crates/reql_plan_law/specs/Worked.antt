@@ -1,0 +1,280 @@
+-- Worked rows of plans: the next move of a request, by what it heard so far. The database test has the table docs in slot 0, zoo has birds in
+-- slot 1, whose key field is `id` too.
+use Prim.Native.String.{String}
+use Rattle.std.specs.Prelude.{◌≡◌, ℕ, pos, List, [], ◌∷◌, ◌++◌, map, Option, Some, None, Bool, true, false, codes}
+use Rattle.reql_datum.specs.Answer.{Reason, op_failed, query_logic, resource_limit}
+use Rattle.reql_datum.specs.Plain.{Plain, boolean, null, number, text, time}
+use Rattle.reql_datum.specs.declared.point.Point.{Point}
+use Rattle.reql_term.specs.Form.{Form, literal, several, keyed, variable, function, slot, operation, forms_of, named_of, no_named}
+use Rattle.reql_term.specs.Views.{Document}
+use Rattle.reql_term.specs.declared.op.Op.{Op}
+use Rattle.reql_term.specs.declared.op.Op.TheVariants as op
+use Rattle.reql_rules.specs.Lists.{Bytes, array_of, object_of}
+use Rattle.reql_catalog.specs.Catalog.{Named}
+use Rattle.reql_catalog.specs.declared.database.Database.{Database}
+use Rattle.reql_catalog.specs.declared.slot.Slot.{Slot}
+use Rattle.reql_catalog.specs.declared.command.CatCmd.TheVariants as cats
+use Rattle.reql_catalog.specs.declared.command.CatSaid.{CatSaid}
+use Rattle.reql_catalog.specs.declared.command.CatSaid.TheVariants as cat_said
+use Rattle.reql_write_law.specs.declared.command.Act.TheVariants as act
+use Rattle.reql_write_law.specs.declared.command.Act.{Act}
+use Rattle.reql_write_law.specs.declared.command.Conflict.TheVariants as conflicts
+use Rattle.reql_write_law.specs.declared.command.Returns.TheVariants as returns
+use Rattle.reql_feed_law.specs.declared.kind.FeedKind.{FeedKind}
+use Rattle.reql_feed_law.specs.declared.kind.FeedKind.TheVariants as kinds
+use Rattle.reql_law.specs.declared.command.Cmd.{Cmd}
+use Rattle.reql_law.specs.declared.command.Cmd.TheVariants as cmds
+use Rattle.reql_table_machine.specs.declared.command.Said.TheVariants as said
+use Rattle.reql_law.specs.declared.reply.Saved.{Saved}
+use Rattle.reql_law.specs.declared.reply.Saved.TheVariants as saved
+use Rattle.reql_plan_law.specs.declared.parts.Plan.{Plan}
+use Rattle.reql_plan_law.specs.declared.parts.Setting.{Setting}
+use Rattle.reql_plan_law.specs.Course.{plan_next}
+use Rattle.reql_plan_law.specs.Move.{Ask, look_names, tell, look, run, change_names, roll, Replied, Heard, names, told, looked, ran, changed, rolled, Stop, fault, memory, Outcome, unsent, atom, grouped, sequence, feed, stop}
+use Rattle.reql_plan_law.specs.Request.{Next, answered, moves}
+use Rattle.reql_plan_law.specs.Summed.{nothing_done, summary_shown}
+
+-- ---- in short
+abbrev database : ℕ → List (Bytes × ℕ) → Database
+database k tables = record { number = k; tables = tables }
+
+abbrev holds : String → String → Slot
+holds db table = record { table = Some (record { db = codes db; name = codes table; key = codes "id" }) }
+
+abbrev ns : Named
+ns = record {
+  place = 0;
+  dbs = (codes "test", database 0 ((codes "docs", 0) ∷ [])) ∷ (codes "zoo", database 1 ((codes "birds", 1) ∷ [])) ∷ [];
+  slots = holds "test" "docs" ∷ holds "zoo" "birds" ∷ [];
+}
+
+abbrev n : ℕ → Plain
+n k = number (pos k)
+
+abbrev num : ℕ → Form
+num k = literal (n k)
+
+abbrev name : String → Form
+name s = literal (text (codes s))
+
+abbrev call : Op → List Form → Form
+call o fs = operation o (forms_of fs) no_named
+
+abbrev with : Op → List Form → List (Bytes × Form) → Form
+with o fs ms = operation o (forms_of fs) (named_of ms)
+
+abbrev docs : Form
+docs = call op.Table (name "docs" ∷ [])
+
+abbrev birds : Form
+birds = call op.Table (call op.Db (name "zoo" ∷ []) ∷ name "birds" ∷ [])
+
+abbrev setting : Bool → Setting
+setting quiet = record { noreply = quiet; batch = 2; cursors = 1; opened = 0 }
+
+abbrev full : Setting
+full = record { noreply = false; batch = 2; cursors = 1; opened = 1 }
+
+abbrev plan : Form → Plan
+plan f = record { term = f; db = codes "test"; array_limit = 100000; batch = 1000 }
+
+-- after the names were looked at
+abbrev goes : Form → List Heard → Next
+goes f hs = plan_next (plan f) (setting false) (names ns ∷ hs)
+
+abbrev quietly : Form → List Heard → Next
+quietly f hs = plan_next (plan f) (setting true) (names ns ∷ hs)
+
+abbrev at : ℕ → ℕ → ℕ → Point
+at k place stamp = record { slot = k; place = place; stamp = stamp }
+
+abbrev sees : ℕ → ℕ → List Document → Heard
+sees place stamp ds = looked (record { place = place; stamp = stamp; view = Some (ds, []) })
+
+abbrev shut : Heard
+shut = looked (record { place = 3; stamp = 0; view = None })
+
+abbrev says : Replied → Heard
+says s = ran (record { place = 1; stamp = 7; said = s }) saved.Yes
+
+abbrev row : ℕ → Document
+row k = (n k, object_of ((codes "id", n k) ∷ []))
+
+abbrev runs : ℕ → List Point → Cmd → Next
+runs k ps c = moves (run k (record { points = ps; cmd = c }))
+
+abbrev fails : Reason → Next
+fails e = answered (stop (fault e))
+
+abbrev writes : Act → Cmd
+writes a = cmds.Write (record { key = codes "id"; act = a; returns = returns.No; hard = true })
+
+abbrev inserts : List Plain → List Plain → Cmd
+inserts ds made = writes (act.Insert ds conflicts.Error made)
+
+abbrev doc : ℕ → Plain
+doc k = object_of ((codes "id", n k) ∷ [])
+
+abbrev nameless : Plain
+nameless = object_of ((codes "n", n 1) ∷ [])
+
+abbrev nameless_term : Form
+nameless_term = keyed (named_of ((codes "n", num 1) ∷ []))
+
+abbrev doc_term : Form → Form
+doc_term f = keyed (named_of ((codes "id", f) ∷ []))
+
+abbrev shown : ℕ → Next
+shown k = answered (atom (summary_shown (record nothing_done { inserted = k })))
+
+abbrev one_done : Heard
+one_done = says (said.Done (record nothing_done { inserted = 1 }))
+
+abbrev bytes : Bytes
+bytes = 0 ∷ 1 ∷ 2 ∷ 3 ∷ 4 ∷ 5 ∷ 6 ∷ 7 ∷ 8 ∷ 9 ∷ 10 ∷ 11 ∷ 12 ∷ 13 ∷ 14 ∷ 15 ∷ []
+
+abbrev key : Plain
+key = text (codes "00010203-0405-4607-8809-0a0b0c0d0e0f")
+
+-- ---- values
+abbrev get_one : Form
+get_one = call op.Get (docs ∷ num 1 ∷ [])
+
+abbrev both : Form
+both = call op.Union (birds ∷ docs ∷ docs ∷ [])
+
+abbrev pub Reads : Type 0
+Reads =
+    (plan_next (plan get_one) (setting false) [] ≡ moves look_names)
+    × (goes get_one [] ≡ moves (look 0))
+    × (goes get_one (sees 0 0 [] ∷ []) ≡ answered (atom null))
+    × (goes get_one (sees 1 1 (row 1 ∷ []) ∷ []) ≡ answered (atom (doc 1)))
+    × (goes get_one (shut ∷ []) ≡ fails (op_failed (codes "Table `test.docs` was dropped.")))
+    × (goes (call op.Table (name "nope" ∷ [])) [] ≡ fails (op_failed (codes "Table `test.nope` does not exist.")))
+    × (goes both [] ≡ moves (look 0))
+    × (goes both (sees 1 1 (row 1 ∷ []) ∷ []) ≡ moves (look 1))
+    × (goes both (sees 0 0 [] ∷ sees 1 1 (row 1 ∷ []) ∷ []) ≡ answered (sequence (doc 1 ∷ [])))
+    × (goes docs (sees 1 3 (row 1 ∷ row 2 ∷ row 3 ∷ []) ∷ []) ≡ answered (sequence (doc 1 ∷ doc 2 ∷ doc 3 ∷ [])))
+    × (plan_next (plan docs) full (names ns ∷ sees 1 3 (row 1 ∷ row 2 ∷ row 3 ∷ []) ∷ []) ≡ fails (resource_limit (codes "Too many cursors.")))
+    × (goes (call op.Now []) [] ≡ moves tell)
+    × (goes (call op.Now []) (told None ∷ []) ≡ fails (op_failed (codes "Clock failed.")))
+    × (goes (call op.Now []) (told (Some (pos 1700000000)) ∷ []) ≡ answered (atom (time (pos 1700000000, pos 0))))
+    × (goes (call op.Now []) (told (Some (pos 9007199254740993)) ∷ []) ≡ fails (query_logic (codes "Number outside the range of whole numbers.")))
+
+-- ---- writes
+abbrev insert : Form → Form
+insert f = call op.Insert (docs ∷ f ∷ [])
+
+abbrev update : Form → Form → Form
+update f g = call op.Update (f ∷ g ∷ [])
+
+abbrev sum_key : Form
+sum_key = call op.Get (docs ∷ call op.Add (num 1 ∷ num 1 ∷ []) ∷ [])
+
+abbrev count_birds : Form
+count_birds = call op.Count (birds ∷ [])
+
+abbrev each : Form
+each = call op.ForEach (several (forms_of (num 1 ∷ num 2 ∷ [])) ∷ function (7 ∷ []) (insert (doc_term (variable 7))) ∷ [])
+
+abbrev pub Writes : Type 0
+Writes =
+    (goes (insert (doc_term (num 1))) [] ≡ runs 0 [] (inserts (doc 1 ∷ []) []))
+    × (goes (insert (doc_term (num 1))) (one_done ∷ []) ≡ shown 1)
+    × (quietly (insert (doc_term (num 1))) (one_done ∷ []) ≡ answered unsent)
+    × (goes (insert (doc_term (num 1))) (says said.Gone ∷ []) ≡ fails (op_failed (codes "Table `test.docs` was dropped.")))
+    × (goes (insert (doc_term (num 1))) (ran (record { place = 1; stamp = 1; said = said.Done nothing_done }) saved.Failed ∷ []) ≡ fails (op_failed (codes "Journal failed.")))
+    × (goes (insert (doc_term (num 1))) (ran (record { place = 1; stamp = 1; said = said.Done nothing_done }) saved.Memory ∷ []) ≡ answered (stop memory))
+    × (goes (insert nameless_term) [] ≡ moves roll)
+    × (goes (insert nameless_term) (rolled None ∷ []) ≡ fails (op_failed (codes "Random source failed.")))
+    × (goes (insert nameless_term) (rolled (Some bytes) ∷ []) ≡ runs 0 [] (inserts (nameless ∷ []) (key ∷ [])))
+    × (goes (insert (num 1)) [] ≡ fails (query_logic (codes "Expected type OBJECT but found NUMBER.")))
+    × (goes (insert birds) [] ≡ moves (look 1))
+    × (goes (insert birds) (sees 2 1 (row 5 ∷ []) ∷ []) ≡ runs 0 (at 1 2 1 ∷ []) (inserts (doc 5 ∷ []) []))
+    × (goes (update sum_key (doc_term count_birds)) (sees 2 1 (row 5 ∷ []) ∷ []) ≡ runs 0 (at 1 2 1 ∷ []) (writes (act.Update (call op.Get (slot 0 ∷ num 2 ∷ [])) (literal (doc 1)))))
+    × (goes (update (call op.Map (docs ∷ function (1 ∷ []) (variable 1) ∷ [])) (num 1)) (sees 0 0 [] ∷ []) ≡ fails (query_logic (codes "Expected a selection.")))
+    × (goes (update docs (function (1 ∷ []) count_birds)) [] ≡ fails (query_logic (codes "Could not prove argument deterministic.")))
+    × (goes each [] ≡ runs 0 [] (inserts (doc 1 ∷ []) []))
+    × (goes each (one_done ∷ []) ≡ runs 0 [] (inserts (doc 2 ∷ []) []))
+    × (goes each (one_done ∷ one_done ∷ []) ≡ shown 2)
+    × (goes (call op.Branch (literal (boolean false) ∷ num 1 ∷ insert (doc_term (num 3)) ∷ [])) [] ≡ runs 0 [] (inserts (doc 3 ∷ []) []))
+    × (goes (call op.Branch (literal (boolean true) ∷ num 1 ∷ insert (doc_term (num 3)) ∷ [])) [] ≡ answered (atom (n 1)))
+
+-- ---- commands
+abbrev counts : String → ℕ → Next
+counts label k = answered (atom (object_of ((codes label, n k) ∷ [])))
+
+abbrev cat : CatSaid → Heard
+cat s = changed (record { place = 1; said = s })
+
+abbrev drop_zoo : Form
+drop_zoo = call op.DbDrop (name "zoo" ∷ [])
+
+abbrev index : Form
+index = call op.IndexCreate (docs ∷ name "n" ∷ [])
+
+abbrev rename : String → String → Form
+rename a b = call op.IndexRename (docs ∷ name a ∷ name b ∷ [])
+
+abbrev pub Commands : Type 0
+Commands =
+    (goes (call op.TableCreate (name "new" ∷ [])) [] ≡ moves (change_names (cats.TableCreate (codes "test") (codes "new") (codes "id"))))
+    × (goes (call op.TableCreate (name "new" ∷ [])) (cat cat_said.Made ∷ []) ≡ counts "tables_created" 1)
+    × (goes (call op.TableCreate (name "docs" ∷ [])) (cat cat_said.TableExists ∷ []) ≡ fails (op_failed (codes "Table `test.docs` already exists.")))
+    × (goes drop_zoo [] ≡ moves (change_names (cats.DbDrop (codes "zoo"))))
+    × (goes drop_zoo (cat (cat_said.Dropped (1 ∷ 4 ∷ [])) ∷ []) ≡ runs 1 [] cmds.Shut)
+    × (goes drop_zoo (cat (cat_said.Dropped (1 ∷ 4 ∷ [])) ∷ says said.Closed ∷ []) ≡ runs 4 [] cmds.Shut)
+    × (goes drop_zoo (cat (cat_said.Dropped (1 ∷ 4 ∷ [])) ∷ says said.Closed ∷ says said.Closed ∷ []) ≡ answered (atom (object_of ((codes "dbs_dropped", n 1) ∷ (codes "tables_dropped", n 2) ∷ []))))
+    × (goes index (says said.Changed ∷ []) ≡ counts "created" 1)
+    × (goes index (says said.IndexExists ∷ []) ≡ fails (op_failed (codes "Index `n` already exists.")))
+    × (goes (call op.IndexCreate (docs ∷ name "id" ∷ [])) [] ≡ fails (query_logic (codes "Index name `id` is the primary key.")))
+    × (goes (rename "a" "b") [] ≡ runs 0 [] (cmds.IndexRename (codes "a") (codes "b") false))
+    × (goes (rename "a" "a") (says said.Changed ∷ []) ≡ counts "renamed" 0)
+    × (goes (rename "a" "b") (says said.IndexMissing ∷ []) ≡ fails (op_failed (codes "Index `a` does not exist.")))
+    × (goes (call op.Sync (docs ∷ [])) [] ≡ runs 0 [] cmds.Sync)
+    × (goes (call op.Sync (docs ∷ [])) (says said.Changed ∷ []) ≡ counts "synced" 1)
+
+-- ---- feeds
+abbrev changes : Form → List (Bytes × Form) → Form
+changes f ms = with op.Changes (f ∷ []) ms
+
+abbrev yes : Form
+yes = literal (boolean true)
+
+abbrev subscribes : ℕ → Form → FeedKind → Next
+subscribes k f kind = runs k [] (cmds.Subscribe (record { key = codes "id"; shape = f; index = None; kind = kind; size = 100000; offsets = false; types = false; squash = false }))
+
+abbrev opened : ℕ → List Plain → Heard
+opened k items = says (said.Opened k items)
+
+abbrev dropped_docs : Bytes
+dropped_docs = codes "Table `test.docs` was dropped."
+
+abbrev state : String → Plain
+state s = object_of ((codes "state", text (codes s)) ∷ [])
+
+abbrev united : Form
+united = call op.Union (docs ∷ birds ∷ [])
+
+abbrev first_ones : Form → Form
+first_ones c = call op.Limit (with op.OrderBy (docs ∷ []) ((codes "index", name "n") ∷ []) ∷ c ∷ [])
+
+abbrev pub Feeds : Type 0
+Feeds =
+    (goes (changes docs []) [] ≡ subscribes 0 (slot 0) kinds.Range)
+    × (goes (changes docs []) (opened 1 (doc 1 ∷ []) ∷ []) ≡ answered (feed (record { slot = 0; feed = 1; dropped = dropped_docs } ∷ []) (1 ∷ []) []))
+    × (goes (changes docs ((codes "include_initial", yes) ∷ (codes "include_states", yes) ∷ [])) (opened 1 (doc 1 ∷ []) ∷ []) ≡
+      answered (feed (record { slot = 0; feed = 1; dropped = dropped_docs } ∷ []) (1 ∷ 5 ∷ [])
+      (record { arm = 0; is_state = true; stamp = 7; shown = state "initializing" } ∷ record { arm = 0; is_state = false; stamp = 7; shown = doc 1 } ∷ record { arm = 0; is_state = true; stamp = 7; shown = state "ready" } ∷ [])))
+    × (goes (changes sum_key []) [] ≡ subscribes 0 (call op.Get (slot 0 ∷ num 2 ∷ [])) kinds.Point)
+    × (goes (changes (call op.Get (docs ∷ literal null ∷ [])) []) [] ≡ fails (query_logic (codes "Value of type NULL cannot be a key.")))
+    × (quietly (changes docs []) [] ≡ answered unsent)
+    × (plan_next (plan (changes docs [])) full (names ns ∷ []) ≡ fails (resource_limit (codes "Too many cursors.")))
+    × (goes (changes docs ((codes "changefeed_queue_size", num 0) ∷ [])) [] ≡ fails (query_logic (codes "Bad value for optional argument `changefeed_queue_size`.")))
+    × (goes (changes united []) (opened 1 [] ∷ []) ≡ subscribes 1 (slot 1) kinds.Range)
+    × (goes (changes united []) (opened 1 [] ∷ says (said.FeedsFull 4) ∷ []) ≡ runs 0 [] (cmds.Unsubscribe 1))
+    × (goes (changes united []) (opened 1 [] ∷ says (said.FeedsFull 4) ∷ says said.Closed ∷ []) ≡ fails (resource_limit (codes "Too many feeds.")))
+    × (goes (changes (first_ones (num 2)) []) [] ≡ moves (look 0))
+    × (goes (changes (first_ones (num 100001)) []) (sees 0 0 [] ∷ []) ≡ fails (resource_limit (codes "Limit over `100000`.")))
+    × (goes (changes (first_ones (num 2)) []) (sees 0 0 [] ∷ []) ≡
+      runs 0 (at 0 0 0 ∷ []) (cmds.Subscribe (record { key = codes "id"; shape = call op.Limit (with op.OrderBy (slot 0 ∷ []) ((codes "index", name "n") ∷ []) ∷ num 2 ∷ []); index = Some (codes "n"); kind = kinds.Limit 2; size = 100000; offsets = false; types = false; squash = false })))

@@ -1,0 +1,14 @@
+// Laws of plans.
+ghost use Rattle.reql_plan_law.specs.Minds.{PlansMind, PlansMindEachStep};
+
+/// A plan takes nothing of a feed, closes no feed but those that it opened and that are open still, and
+/// tells of no others, whatever its moves are answered: what a session holds open is safe from a later request.
+pub fn plans_mind()
+    ensures { PlansMind }
+{}
+
+/// The same step by step, by what was heard so far, as a session follows a plan.
+#[tactic(auto, using(crate::proofs::Following::plans_mind_each_step))]
+pub fn plans_mind_each_step()
+    ensures { PlansMindEachStep }
+{}

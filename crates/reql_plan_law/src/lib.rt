@@ -1,0 +1,10 @@
+//! What a request reads and commands, as definitions: its moves in the order of its refusals, each by what it heard, and its answer.
+#![tactic(auto)]
+
+mod laws;
+mod parts;
+mod rows;
+
+pub use laws::{plans_mind, plans_mind_each_step};
+pub use parts::{Commanded, Opening, Plan, Prepared, Setting, TableCmd};
+pub use rows::worked_rows;
