@@ -41,13 +41,13 @@ use Rattle.reql_plan_law.specs.declared.parts.Opening.{Opening}
 use Rattle.reql_plan_law.specs.declared.parts.TableCmd.{TableCmd}
 use Rattle.reql_plan_law.specs.declared.parts.TableCmd.TheVariants as tables
 use Rattle.reql_plan_law.specs.Commands.{cat_command, table_command, cmd_of}
-use Rattle.reql_plan_law.specs.Course.{Open, Each, lost, names_heard, determined, moment_in_range, moment_by, moment_heard, seen_at, seen_heard, looks, said_by, kept_by, reply_heard, command, key_by, key_heard, keys, summary_said, run_write, write, wrote, round, rounds, each_of, for_each, shuts, changed_by, change_heard, change_catalogue, table_said, change_table, closing, is_among, arm_of, opened_by, opened_if, open_heard, subscribed, opens, changes, has_room, fits_in, shown_as, shown, any_command, by_task, carried, branched, held, reading, read, timed, at_moment, resolving, course}
+use Rattle.reql_plan_law.specs.Course.{Open, lost, names_heard, moment_by, moment_heard, seen_at, seen_heard, looks, said_by, kept_by, reply_heard, command, key_by, key_heard, keys, summary_said, run_write, write, wrote, round, rounds, each_of, for_each, shuts, changed_by, change_heard, change_catalogue, table_said, change_table, closing, is_among, arm_of, opened_by, opened_if, open_heard, subscribed, opens, changes, has_room, fits_in, shown_as, shown, any_command, by_task, carried, branched, held, read, timed, resolving, course}
 use Rattle.reql_plan_law.specs.Feeding.{Feeding, feeding}
 use Rattle.reql_plan_law.specs.Held.{Held, Read, nothing_read}
-use Rattle.reql_plan_law.specs.Minds.{Feeds, is_feed, has_feed, without_feed, with_opened, with_ran, with_heard, MayRun, May, AreOpen, MayEnd, Minds, PlansMind}
-use Rattle.reql_plan_law.specs.Move.{Ask, Replied, Heard, names, told, looked, ran, changed, rolled, Stop, Outcome, unsent, sequence}
+use Rattle.reql_plan_law.specs.Minds.{Feeds, is_feed, has_feed, without_feed, with_opened, with_ran, MayRun, AreOpen, MayEnd, Minds, PlansMind}
+use Rattle.reql_plan_law.specs.Move.{Replied, Heard, names, told, looked, ran, changed, rolled, Outcome, unsent, sequence}
 use Rattle.reql_plan_law.specs.Reads.{has_now, leaks, now_rule, read_slots, with_element}
-use Rattle.reql_plan_law.specs.Request.{Request, ends, asks, Moves, give, halt, refuse, from, ask, request}
+use Rattle.reql_plan_law.specs.Request.{Request, ends, Moves, give, refuse, from}
 use Rattle.reql_plan_law.specs.Settled.{there, meant_of, datum_of, sequence_of}
 use Rattle.reql_plan_law.specs.Summed.{added, nothing_done}
 use Rattle.reql_plan_law.specs.Texts.{undetermined, too_many_cursors}
@@ -309,9 +309,11 @@ stays n number m other (f ∷ fs) apart h = by_first (is_feed n number f) refl (
     rest : (a : Bool) → a ≡ false → (a || has_feed m other fs) ≡ true → has_feed m other fs ≡ true
     rest true e h = absurd (true≢false e)
     rest false e h = h
+
     kept : (a b c : Bool) → (b ≡ true → c ≡ true) → (a || b) ≡ true → (a || c) ≡ true
     kept true b c f h = refl
     kept false b c f h = f h
+
     by_first : (b : Bool) → is_feed n number f ≡ b → (has_feed m other fs ≡ true → has_feed m other (without_feed n number fs) ≡ true) → has_feed m other (cond b (without_feed n number fs) (f ∷ without_feed n number fs)) ≡ true
     by_first true e later = later (rest (is_feed m other f) (ap (is_feed m other) (is_this n number f e) ∙ apart) h)
     by_first false e later = kept (is_feed m other f) (has_feed m other fs) (has_feed m other (without_feed n number fs)) later h
@@ -417,8 +419,11 @@ minds_heard e before o (rolled bs) opened on all apart go = tt
 minds_subscribed : (e : Held) (before : List Open) (os : List Opening) (opened : Feeds) (on : List Open → Request) → AllOpen opened before → Apart before → ((a : List Open) (more : Feeds) → AllOpen more a → Minds more (on a)) →
     Minds opened (subscribed e before os on)
 minds_subscribed e before [] opened on all apart k = k before opened all
-minds_subscribed e before (o ∷ os) opened on all apart k = (tt, λ h. minds_heard e before o h opened (λ x. subscribed e (before ++ x ∷ []) os on) all apart
-    (λ x more opened other. minds_subscribed e (before ++ x ∷ []) os more on opened other k))
+minds_subscribed e before (o ∷ os) opened on all apart k = (
+  tt,
+  λ h. minds_heard e before o h opened (λ x. subscribed e (before ++ x ∷ []) os on) all apart
+      (λ x more opened other. minds_subscribed e (before ++ x ∷ []) os more on opened other k),
+)
 
 keeps_opens : (e : Held) (f : Feeding) → Concludes (opens e f)
 keeps_opens e f opened on k = minds_subscribed e [] f.openings opened _ tt tt (λ os more all. k _ more (all_arms e os more all))
@@ -426,7 +431,7 @@ keeps_opens e f opened on k = minds_subscribed e [] f.openings opened _ tt tt (�
 keeps_changes : (e : Held) (fs : Forms) (ms : NamedForms) → Concludes (changes e fs ms)
 keeps_changes e fs ms opened on k = keeps_from (feeding e fs ms) opened _
     (λ f more. ends_cond e.setting.noreply (give unsent) (cond (has_room e.setting) (opens e f) (refuse too_many_cursors)) (λ o q j. j unsent o tt)
-        (ends_cond (has_room e.setting) (opens e f) (refuse too_many_cursors) (keeps_opens e f) (λ o q j. tt)) more on k)
+    (ends_cond (has_room e.setting) (opens e f) (refuse too_many_cursors) (keeps_opens e f) (λ o q j. tt)) more on k)
 
 -- ---- values, and what stands at the root
 keeps_shown_as : (e : Held) (s : Shown) → Concludes (shown_as e s)

@@ -1,5 +1,5 @@
 -- Commands on names and on indexes, and SYNC, as a request gives them.
-use Rattle.std.specs.Prelude.{ℕ, List, [], ◌∷◌, Option, Some, None, Bool, true, false, if◌then◌else◌, Ok, Err, codes}
+use Rattle.std.specs.Prelude.{ℕ, [], ◌∷◌, Option, Some, None, Bool, true, false, if◌then◌else◌, Ok, Err, codes}
 use Rattle.std.specs.Option.{unwrap_or}
 use Rattle.reql_datum.specs.Answer.{Answer, ◌>>=◌}
 use Rattle.reql_datum.specs.Plain.{Plain, text}

@@ -1,9 +1,8 @@
 -- The course of a request: what it asks, in the order of its refusals, and what it is answered.
-use Rattle.std.specs.Prelude.{ℕ, zero, suc, ℤ, ◌-◌, ◌+◌, ◌^◌, List, [], ◌∷◌, ◌++◌, map, length, min, Option, Some, None, Bool, true, false, ◌&&◌, ◌||◌, not, cond, nat_eq, nat_lt, nat_le, Ok, Err, codes}
-use Rattle.reql_datum.specs.Answer.{Answer, Reason}
+use Rattle.std.specs.Prelude.{ℕ, zero, suc, ℤ, List, [], ◌∷◌, ◌++◌, map, length, min, Option, Some, None, Bool, true, false, ◌&&◌, ◌||◌, cond, nat_eq, nat_lt, nat_le, codes}
+use Rattle.reql_datum.specs.Answer.{Reason}
 use Rattle.reql_datum.specs.Plain.{Plain}
 use Rattle.reql_datum.specs.Whole.{is_in}
-use Rattle.reql_datum.specs.declared.point.Point.{Point}
 use Rattle.reql_datum.specs.declared.whole.NumFault.TheVariants.{OverRange}
 use Rattle.reql_term.specs.Form.{Form, several, function, operation, Forms, no_forms, form, NamedForms}
 use Rattle.reql_term.specs.Table.{task_of}
@@ -18,14 +17,12 @@ use Rattle.reql_rules.specs.Types.{truth}
 use Rattle.reql_faults.specs.Places.{first, second}
 use Rattle.reql_catalog.specs.Catalog.{Named}
 use Rattle.reql_catalog.specs.declared.command.CatCmd.{CatCmd}
-use Rattle.reql_catalog.specs.declared.command.CatReply.{CatReply}
 use Rattle.reql_catalog.specs.declared.command.CatSaid.{CatSaid}
 use Rattle.reql_catalog.specs.declared.command.CatSaid.TheVariants as cat_said
 use Rattle.reql_naming.specs.Named.{resolved}
 use Rattle.reql_naming.specs.Texts.{bad_name, no_db, no_table}
 use Rattle.reql_value.specs.Shown as values
 use Rattle.reql_value.specs.Shown.{Shown}
-use Rattle.reql_value.specs.World.{World}
 use Rattle.reql_write_law.specs.declared.command.Summary.{Summary}
 use Rattle.reql_feed_law.specs.Shown.{Shows, state_item}
 use Rattle.reql_law.specs.Followed.{arguments}
@@ -47,9 +44,9 @@ use Rattle.reql_plan_law.specs.Commands.{cat_command, names_in, made_by, dropped
 use Rattle.reql_plan_law.specs.Feeding.{Told, Feeding, feeding}
 use Rattle.reql_plan_law.specs.Held.{Held, Read, nothing_read, dropped_of, dropped, with_view, world_of}
 use Rattle.reql_plan_law.specs.Keys.{key_of}
-use Rattle.reql_plan_law.specs.Move.{Ask, look_names, tell, look, run, change_names, roll, Replied, Heard, names, told, looked, ran, changed, rolled, Stop, fault, memory, Arm, Item, Outcome, unsent, atom, grouped, sequence, feed, stop}
+use Rattle.reql_plan_law.specs.Move.{look_names, tell, look, run, change_names, roll, Replied, Heard, names, told, looked, ran, changed, rolled, memory, Arm, Item, Outcome, unsent, atom, grouped, sequence, feed}
 use Rattle.reql_plan_law.specs.Reads.{read_slots, leaks, has_now, now_rule, with_element}
-use Rattle.reql_plan_law.specs.Request.{Request, Moves, ◌>>=◌, give, halt, refuse, from, ask, request, Next, answered, moves, next}
+use Rattle.reql_plan_law.specs.Request.{Moves, ◌>>=◌, give, halt, refuse, from, ask, request, Next, answered, moves, next}
 use Rattle.reql_plan_law.specs.Settled.{there, meant_of, datum_of, sequence_of}
 use Rattle.reql_plan_law.specs.Summed.{added, nothing_done, summary_shown}
 use Rattle.reql_plan_law.specs.Texts.{db_there, table_there, index_there, undetermined, no_clock, no_dice, no_journal, too_many_cursors, too_many_feeds, too_many_tables, history_full}

@@ -1,12 +1,12 @@
 -- The feeds that CHANGES asks for: the term of each with the data of its arguments in their places, tested as its row says, and the options.
-use Rattle.std.specs.Prelude.{ℕ, ℤ, pos, negsuc, List, [], ◌∷◌, Option, Some, None, option_and_then, Bool, true, false, ◌&&◌, if◌then◌else◌, nat_le, nat_lt, Ok, Err, codes}
+use Rattle.std.specs.Prelude.{ℕ, ℤ, pos, negsuc, List, [], ◌∷◌, Option, Some, None, option_and_then, Bool, true, false, ◌&&◌, if◌then◌else◌, nat_le, Ok, Err, codes}
 use Rattle.std.specs.Option.{unwrap_or}
 use Rattle.reql_datum.specs.Answer.{Answer, ◌>>=◌}
 use Rattle.reql_datum.specs.Keys.{is_key}
 use Rattle.reql_datum.specs.Kinds.{is_storable}
 use Rattle.reql_datum.specs.Members.{find}
 use Rattle.reql_datum.specs.Plain.{Plain, boolean, number}
-use Rattle.reql_term.specs.Form.{Form, literal, slot, operation, Forms, no_forms, form, NamedForms, forms_of, named_of}
+use Rattle.reql_term.specs.Form.{Form, literal, operation, Forms, no_forms, form, NamedForms}
 use Rattle.reql_term.specs.Table.{way_of}
 use Rattle.reql_term.specs.Views.{Index}
 use Rattle.reql_term.specs.declared.op.Op.{Op}
@@ -23,16 +23,15 @@ use Rattle.reql_faults.specs.declared.shape.Shape.TheVariants as shapes
 use Rattle.reql_value.specs.Meant.{one, given, Given, Options}
 use Rattle.reql_value.specs.Tables.{key_if, may_bound}
 use Rattle.reql_value.specs.Wanted.{index_text, left_is_open, right_is_open, seen}
-use Rattle.reql_value.specs.World.{World, View, view_at}
+use Rattle.reql_value.specs.World.{World, view_at}
 use Rattle.reql_write_law.specs.Selecting.{slots}
 use Rattle.reql_feed_law.specs.declared.kind.FeedKind.{FeedKind}
 use Rattle.reql_feed_law.specs.declared.kind.FeedKind.TheVariants as kinds
-use Rattle.reql_law.specs.Followed.{arguments, options, first_slot, shape_index}
-use Rattle.reql_law.specs.declared.command.FeedSpec.{FeedSpec}
+use Rattle.reql_law.specs.Followed.{first_slot, shape_index}
 use Rattle.reql_plan_law.specs.declared.parts.Opening.{Opening}
 use Rattle.reql_plan_law.specs.Held.{Held, key_of}
 use Rattle.reql_plan_law.specs.Reads.{args_of, options_of}
-use Rattle.reql_plan_law.specs.Settled.{there, settled, options_given, truth_option, truth_in}
+use Rattle.reql_plan_law.specs.Settled.{there, settled, options_given, truth_option}
 use Rattle.reql_plan_law.specs.Texts.{over_limit, multi_feed}
 
 -- ---- the tests of a term whose arguments have their data, in the order of its row

@@ -1,5 +1,5 @@
 -- Which tables a request reads before it is evaluated, which functions may name none, and whether it asks for the moment.
-use Rattle.std.specs.Prelude.{ℕ, ℤ, pos, List, [], ◌∷◌, ◌++◌, drop, Option, Some, None, Bool, true, false, ◌&&◌, ◌||◌, not, if◌then◌else◌, nat_lt, nat_eq, Ok}
+use Rattle.std.specs.Prelude.{ℕ, ℤ, pos, List, [], ◌∷◌, ◌++◌, drop, Option, Some, None, Bool, true, false, ◌&&◌, ◌||◌, if◌then◌else◌, nat_lt, nat_eq, Ok}
 use Rattle.reql_datum.specs.Answer.{Answer, ◌>>=◌}
 use Rattle.reql_datum.specs.Plain.{Plain, time}
 use Rattle.reql_term.specs.Form.{Form, literal, several, keyed, variable, implicit, function, slot, operation, Forms, no_forms, form, NamedForms, no_named, named}
@@ -10,7 +10,7 @@ use Rattle.reql_faults.specs.Faults.{is_bound, is_one}
 use Rattle.reql_faults.specs.Shapes.{shape}
 use Rattle.reql_faults.specs.declared.shape.Shape.{Shape}
 use Rattle.reql_faults.specs.declared.shape.Shape.TheVariants as shapes
-use Rattle.reql_write_law.specs.Selecting.{is_chain, slots, slots_of, slots_named}
+use Rattle.reql_write_law.specs.Selecting.{is_chain, slots, slots_named}
 
 -- ---- the snapshots
 

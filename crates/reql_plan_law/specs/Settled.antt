@@ -2,7 +2,7 @@
 use Rattle.std.specs.Prelude.{ℕ, List, [], ◌∷◌, Option, Some, None, Bool, true, false, option_and_then, Ok, Err, codes}
 use Rattle.reql_datum.specs.Answer.{Answer, ◌>>=◌}
 use Rattle.reql_datum.specs.Plain.{Plain, boolean}
-use Rattle.reql_term.specs.Form.{Form, literal, several, keyed, variable, implicit, function, slot, operation, Forms, no_forms, form, NamedForms, no_named, named, forms_of, named_of}
+use Rattle.reql_term.specs.Form.{Form, literal, function, slot, operation, Forms, no_forms, form, NamedForms, no_named, named, forms_of, named_of}
 use Rattle.reql_term.specs.Table.{way_of}
 use Rattle.reql_term.specs.declared.op.Op.{Op}
 use Rattle.reql_term.specs.declared.role.Way.{Way}

@@ -1,7 +1,7 @@
 -- Worked rows of plans: the next move of a request, by what it heard so far. The database test has the table docs in slot 0, zoo has birds in
 -- slot 1, whose key field is `id` too.
 use Prim.Native.String.{String}
-use Rattle.std.specs.Prelude.{◌≡◌, ℕ, pos, List, [], ◌∷◌, ◌++◌, map, Option, Some, None, Bool, true, false, codes}
+use Rattle.std.specs.Prelude.{◌≡◌, ℕ, pos, List, [], ◌∷◌, Some, None, Bool, true, false, codes}
 use Rattle.reql_datum.specs.Answer.{Reason, op_failed, query_logic, resource_limit}
 use Rattle.reql_datum.specs.Plain.{Plain, boolean, null, number, text, time}
 use Rattle.reql_datum.specs.declared.point.Point.{Point}
@@ -9,7 +9,7 @@ use Rattle.reql_term.specs.Form.{Form, literal, several, keyed, variable, functi
 use Rattle.reql_term.specs.Views.{Document}
 use Rattle.reql_term.specs.declared.op.Op.{Op}
 use Rattle.reql_term.specs.declared.op.Op.TheVariants as op
-use Rattle.reql_rules.specs.Lists.{Bytes, array_of, object_of}
+use Rattle.reql_rules.specs.Lists.{Bytes, object_of}
 use Rattle.reql_catalog.specs.Catalog.{Named}
 use Rattle.reql_catalog.specs.declared.database.Database.{Database}
 use Rattle.reql_catalog.specs.declared.slot.Slot.{Slot}
@@ -25,12 +25,11 @@ use Rattle.reql_feed_law.specs.declared.kind.FeedKind.TheVariants as kinds
 use Rattle.reql_law.specs.declared.command.Cmd.{Cmd}
 use Rattle.reql_law.specs.declared.command.Cmd.TheVariants as cmds
 use Rattle.reql_table_machine.specs.declared.command.Said.TheVariants as said
-use Rattle.reql_law.specs.declared.reply.Saved.{Saved}
 use Rattle.reql_law.specs.declared.reply.Saved.TheVariants as saved
 use Rattle.reql_plan_law.specs.declared.parts.Plan.{Plan}
 use Rattle.reql_plan_law.specs.declared.parts.Setting.{Setting}
 use Rattle.reql_plan_law.specs.Course.{plan_next}
-use Rattle.reql_plan_law.specs.Move.{Ask, look_names, tell, look, run, change_names, roll, Replied, Heard, names, told, looked, ran, changed, rolled, Stop, fault, memory, Outcome, unsent, atom, grouped, sequence, feed, stop}
+use Rattle.reql_plan_law.specs.Move.{look_names, tell, look, run, change_names, roll, Replied, Heard, names, told, looked, ran, changed, rolled, fault, memory, unsent, atom, sequence, feed, stop}
 use Rattle.reql_plan_law.specs.Request.{Next, answered, moves}
 use Rattle.reql_plan_law.specs.Summed.{nothing_done, summary_shown}
 
@@ -264,8 +263,8 @@ Feeds =
     (goes (changes docs []) [] ≡ subscribes 0 (slot 0) kinds.Range)
     × (goes (changes docs []) (opened 1 (doc 1 ∷ []) ∷ []) ≡ answered (feed (record { slot = 0; feed = 1; dropped = dropped_docs } ∷ []) (1 ∷ []) []))
     × (goes (changes docs ((codes "include_initial", yes) ∷ (codes "include_states", yes) ∷ [])) (opened 1 (doc 1 ∷ []) ∷ []) ≡
-      answered (feed (record { slot = 0; feed = 1; dropped = dropped_docs } ∷ []) (1 ∷ 5 ∷ [])
-      (record { arm = 0; is_state = true; stamp = 7; shown = state "initializing" } ∷ record { arm = 0; is_state = false; stamp = 7; shown = doc 1 } ∷ record { arm = 0; is_state = true; stamp = 7; shown = state "ready" } ∷ [])))
+    answered (feed (record { slot = 0; feed = 1; dropped = dropped_docs } ∷ []) (1 ∷ 5 ∷ [])
+    (record { arm = 0; is_state = true; stamp = 7; shown = state "initializing" } ∷ record { arm = 0; is_state = false; stamp = 7; shown = doc 1 } ∷ record { arm = 0; is_state = true; stamp = 7; shown = state "ready" } ∷ [])))
     × (goes (changes sum_key []) [] ≡ subscribes 0 (call op.Get (slot 0 ∷ num 2 ∷ [])) kinds.Point)
     × (goes (changes (call op.Get (docs ∷ literal null ∷ [])) []) [] ≡ fails (query_logic (codes "Value of type NULL cannot be a key.")))
     × (quietly (changes docs []) [] ≡ answered unsent)
@@ -277,4 +276,4 @@ Feeds =
     × (goes (changes (first_ones (num 2)) []) [] ≡ moves (look 0))
     × (goes (changes (first_ones (num 100001)) []) (sees 0 0 [] ∷ []) ≡ fails (resource_limit (codes "Limit over `100000`.")))
     × (goes (changes (first_ones (num 2)) []) (sees 0 0 [] ∷ []) ≡
-      runs 0 (at 0 0 0 ∷ []) (cmds.Subscribe (record { key = codes "id"; shape = call op.Limit (with op.OrderBy (slot 0 ∷ []) ((codes "index", name "n") ∷ []) ∷ num 2 ∷ []); index = Some (codes "n"); kind = kinds.Limit 2; size = 100000; offsets = false; types = false; squash = false })))
+    runs 0 (at 0 0 0 ∷ []) (cmds.Subscribe (record { key = codes "id"; shape = call op.Limit (with op.OrderBy (slot 0 ∷ []) ((codes "index", name "n") ∷ []) ∷ num 2 ∷ []); index = Some (codes "n"); kind = kinds.Limit 2; size = 100000; offsets = false; types = false; squash = false })))

@@ -1,5 +1,5 @@
 -- Writes as the commands that they give: all that is evaluated first, then the tests in the order of the term's row.
-use Rattle.std.specs.Prelude.{ℕ, suc, List, [], ◌∷◌, length, Option, Some, None, Bool, true, false, if◌then◌else◌, Ok, Err, codes}
+use Rattle.std.specs.Prelude.{ℕ, suc, List, [], ◌∷◌, Option, Some, None, Bool, true, false, if◌then◌else◌, Ok, Err, codes}
 use Rattle.reql_datum.specs.Answer.{Answer, ◌>>=◌}
 use Rattle.reql_datum.specs.Plain.{Plain, array, boolean, listed}
 use Rattle.reql_datum.specs.Members.{find}
