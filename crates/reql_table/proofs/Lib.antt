@@ -7,4 +7,5 @@ mod Turned
 mod Rising
 mod Filing
 mod Listed
+mod Owned
 mod Sends
