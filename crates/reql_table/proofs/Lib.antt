@@ -7,5 +7,4 @@ mod Turned
 mod Rising
 mod Filing
 mod Listed
-mod Owned
 mod Sends

@@ -1,6 +1,5 @@
 -- The trees of a table by their numbers: that of number 0 has the documents, the others have the entries of the indexes.
-use Rattle.std.specs.Prelude.{◌≡◌, ◌<◌, ℕ, nat_eq, List, [], ◌∷◌, Bool, false, if◌then◌else◌, Option, Some, None, is_some, option_map}
-use Rattle.std.specs.List.{AllByRecursion}
+use Rattle.std.specs.Prelude.{◌≡◌, ℕ, nat_eq, List, [], ◌∷◌, Bool, false, if◌then◌else◌, Option, Some, None, is_some, option_map}
 use Rattle.std.specs.Option.{unwrap_or}
 use Rattle.reql_datum.specs.Members.{find}
 use Rattle.reql_datum.specs.Plain.{Plain}
@@ -8,7 +7,7 @@ use Rattle.reql_rules.specs.Lists.{Bytes}
 use Rattle.reql_term.specs.Views.{Document, Index}
 use Rattle.reql_value.specs.Index.{index_list}
 use Rattle.reql_table.specs.Keys.{pairs_of}
-use Rattle.reql_table.specs.Seen.{Numbered, Standing, documents_of, numbered_of, next_of}
+use Rattle.reql_table.specs.Seen.{Numbered, Standing, documents_of, numbered_of}
 
 -- the definition of the index whose tree has a number
 abbrev pub index_at : ℕ → List (Bytes × Numbered) → Option Index
@@ -37,25 +36,3 @@ number_of (Some name) t = option_map (λ m. m.0) (find name (numbered_of t))
 -- each index has a tree of its own: that of its number is no other's
 abbrev pub HasOwnTrees : Standing → Type 0
 HasOwnTrees t = (name : Bytes) (m : Numbered) → find name (numbered_of t) ≡ Some m → (nat_eq m.0 0 ≡ false) × (index_at m.0 (numbered_of t) ≡ Some m.1)
-
--- what holds of each index with its number
-abbrev pub Each : (Numbered → Type 0) → List (Bytes × Numbered) → Type 0
-Each P = AllByRecursion (λ m. P m.1)
-
--- a number that was given: above 0, and below the next one
-abbrev pub IsGiven : ℕ → Numbered → Type 0
-IsGiven next a = (0 < a.0) × (a.0 < next)
-
--- one number is one index
-abbrev pub IsAlike : Numbered → Numbered → Type 0
-IsAlike a b = a.0 ≡ b.0 → a.1 ≡ b.1
-
--- the numbers of indexes, of which the next one is free
-pub record AreNumbered (ms : List (Bytes × Numbered)) (next : ℕ) : Type 0 where
-  pub some : 0 < next
-  pub given : Each (IsGiven next) ms
-  pub alike : Each (λ a. Each (IsAlike a) ms) ms
-
--- each number of a tree was given once
-abbrev pub GivesNumbers : Standing → Type 0
-GivesNumbers t = AreNumbered (numbered_of t) (next_of t)

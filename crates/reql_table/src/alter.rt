@@ -5,7 +5,6 @@ ghost use Rattle.reql_datum.specs.Members.{AreRising, find, put, without};
 ghost use Rattle.reql_term.specs.Views.{index_of};
 ghost use Rattle.reql_table.specs.Edits.{renamed};
 ghost use Rattle.reql_table.specs.Seen.{documents_of, indexes_of, next_of, numbered_of, numbered, IsFiled};
-ghost use Rattle.reql_table.specs.Trees.{GivesNumbers};
 
 use crate::filed::FiledIndex;
 use crate::indexes::{copies_of, held, put_index, without_index};
@@ -35,7 +34,7 @@ impl Table {
 
     /// The table with an index more, whose tree is built over all documents and gets the next
     /// number. An index of that name that is there gives way.
-    #[tactic(auto, using(crate::proofs::Listed::put_unnumbered, crate::proofs::Owned::gives_more))]
+    #[tactic(auto, using(crate::proofs::Listed::put_unnumbered))]
     pub fn with_index(&self, def: &IndexDef) -> Result<Table, Memory>
         ensures documents { IfOk result (λ t. documents_of t ≡ documents_of self.now) }
         ensures indexes { IfOk result (λ t. indexes_of t
@@ -43,7 +42,6 @@ impl Table {
         ensures numbered { IfOk result (λ t. numbered_of t
             ≡ put def.now.name (next_of self.now, index_of def.now) (numbered_of self.now)) }
         ensures next { IfOk result (λ t. next_of t ≡ next_of self.now + 1) }
-        ensures own { GivesNumbers self.now → IfOk result GivesNumbers }
     {
         let Some(next) = self.next.checked_add(1) else {
             return Err(Memory);
@@ -60,7 +58,7 @@ impl Table {
     }
 
     /// The table without the index of a name.
-    #[tactic(auto, using(crate::proofs::Listed::without_unnumbered, crate::proofs::Owned::gives_less))]
+    #[tactic(auto, using(crate::proofs::Listed::without_unnumbered))]
     pub fn without_index(&self, name: &str) -> Result<Table, Memory>
         ensures documents { IfOk result (λ t. documents_of t ≡ documents_of self.now) }
         ensures indexes { IfOk result (λ t. indexes_of t
@@ -68,7 +66,6 @@ impl Table {
         ensures numbered { IfOk result (λ t. numbered_of t
             ≡ without name.now (numbered_of self.now)) }
         ensures next { IfOk result (λ t. next_of t ≡ next_of self.now) }
-        ensures own { GivesNumbers self.now → IfOk result GivesNumbers }
     {
         let copies = copies_of(self.alloc, self.all_indexes())?;
         let indexes = without_index(copies, name);
@@ -94,7 +91,7 @@ impl Table {
 
     /// The table where the index of a name, if there is one, has another name and keeps its tree
     /// with its number. An index that has the other name gives way.
-    #[tactic(auto, using(crate::proofs::Listed::renamed_unnumbered, crate::proofs::Owned::gives_renamed))]
+    #[tactic(auto, using(crate::proofs::Listed::renamed_unnumbered))]
     pub fn with_renamed(&self, old: &str, new: &Name) -> Result<Table, Memory>
         ensures documents { IfOk result (λ t. documents_of t ≡ documents_of self.now) }
         ensures indexes { IfOk result (λ t. indexes_of t ≡ renamed old.now new.now
@@ -102,7 +99,6 @@ impl Table {
         ensures numbered { IfOk result (λ t. numbered_of t ≡ renamed old.now new.now
             (find old.now (numbered_of self.now)) (numbered_of self.now)) }
         ensures next { IfOk result (λ t. next_of t ≡ next_of self.now) }
-        ensures own { GivesNumbers self.now → IfOk result GivesNumbers }
     {
         match self.filed(old) {
             None => self.share(),

@@ -7,7 +7,6 @@ ghost use Rattle.reql_datum.specs.Members.{AreRising, find};
 ghost use Rattle.reql_datum.specs.Order.{order};
 ghost use Rattle.reql_term.specs.Views.{Document, index_of};
 ghost use Rattle.reql_table.specs.Seen.{documents_of, indexes_of, numbered_of, next_of, unnumbered, numbered, numbered_in, IsFiled, Finds};
-ghost use Rattle.reql_table.specs.Trees.{GivesNumbers};
 
 use crate::filed::FiledIndex;
 use reql_datum::Memory;
@@ -64,12 +63,11 @@ fn find_in<'a>(indexes: &'a [FiledIndex], name: &str) -> Option<&'a FiledIndex>
 impl Table {
     /// A table of nothing. The first index gets the tree of number 1; the documents lie in that of
     /// number 0.
-    #[tactic(auto, using(crate::proofs::Named::keeps_nothing, crate::proofs::Owned::gives_first))]
+    #[tactic(auto, using(crate::proofs::Named::keeps_nothing))]
     pub fn new(alloc: Global) -> Table
         ensures documents { documents_of result ≡ [] }
         ensures indexes { indexes_of result ≡ [] }
         ensures next { next_of result ≡ 1 }
-        ensures own { GivesNumbers result }
     {
         Table {
             alloc,

@@ -1,10 +1,9 @@
-use Rattle.std.proofs.Common.{List, map, ap, ◌∙◌, sym, subst, rules}
+use Rattle.std.proofs.Common.{List, map, sym, subst}
 use Rattle.std.specs.List.{AllByRecursion}
-use Rattle.reql_datum.specs.Members.{AreRising, without}
+use Rattle.reql_datum.specs.Members.{AreRising}
 use Rattle.reql_table.specs.Seen.{documents_of, numbered, IsFiled}
 use Rattle.reql_table.specs.declared.filed.FiledIndex.{FiledIndex}
 use Rattle.reql_table.proofs.Listed.{out_rises}
-use Rattle.reql_table.proofs.Owned.{gives_less}
 use Rattle.reql_table.proofs.table.Table.without_index.Goals as goal
 
 pub with_indexes-requires-clause-rising : goal.with_indexes-requires-clause-rising
@@ -16,9 +15,3 @@ pub with_indexes-requires-clause-filed : goal.with_indexes-requires-clause-filed
 with_indexes-requires-clause-filed c =
     let docs = documents_of c.args.self.now in
     c.without_index-indexes.ensures.filed docs (subst (AllByRecursion (IsFiled docs)) (sym c.in_ok-copies.ensures) c.all_indexes.ensures.filed)
-
-pub returns-clause-own : goal.returns-clause-own
-returns-clause-own c =
-    gives_less c.args.self.now c.args.name.now c.in_ok-table.table
-    (c.in_ok-table.ensures.numbered ∙ c.without_index-indexes.ensures.numbered ∙ ap (λ (is : List FiledIndex). without c.args.name.now (map numbered is)) c.in_ok-copies.ensures ∙ ap (without c.args.name.now) c.all_indexes.ensures.indexes)
-    (c.in_ok-table.ensures.next ∙ search rules)
