@@ -7,3 +7,4 @@ pub mod Memory
 pub mod Source
 pub mod Chance
 pub mod Hours
+pub mod Written

@@ -1,5 +1,6 @@
 //! The outside of a session: a link that gives bytes and takes bytes, one in memory, and one over
-//! standard input and output; dice and a clock, in memory and of the system.
+//! standard input and output; dice and a clock, in memory and of the system; and sinks, which take
+//! what is printed.
 //!
 //! What a link tells of itself is one record, its tape (`specs/Tape.antt`), and each call moves the
 //! tape by one relation. The lemmas of `proofs/Moving.antt` join such moves, and the crates above
@@ -13,6 +14,7 @@ mod memory;
 mod plays;
 mod script;
 mod sending;
+mod sink;
 mod standard;
 mod stream;
 #[cfg(test)]
@@ -24,4 +26,5 @@ pub use link::{Link, Recv, Sending};
 pub use memory::{MemLink, MemRecord};
 pub use script::LinkStep;
 pub use sending::send_all;
+pub use sink::{MemSink, Put, Sink, StdSink};
 pub use standard::{StdLink, StdRecord};

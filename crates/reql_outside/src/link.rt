@@ -48,6 +48,19 @@ pub trait Link {
         ensures fits { SendFits result (length piece.now) }
         ensures told { Sends (tape self.old) (tape self.new) piece.now result };
 
+    /// Tells the link that its session waits for a change of the table in a slot.
+    ///
+    /// The next `recv` may then answer `Idle` as soon as the table may have changed. What is told
+    /// holds for that one `recv`. Tell it before the table is looked at, so that no change is missed.
+    fn awaits(&mut self, _slot: u32)
+        ensures still { tape self.new ≡ tape self.old }
+    {}
+
+    /// Tells the link that its session changed, or dropped, the table in a slot.
+    fn changed(&mut self, _slot: u32)
+        ensures still { tape self.new ≡ tape self.old }
+    {}
+
     /// Ends the link, and gives its record.
     fn finish(self) -> Self::Record
         ensures { kept result ≡ tape self };

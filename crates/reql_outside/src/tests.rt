@@ -1,7 +1,7 @@
 use crate::stream::{read_some, write_on};
 use crate::{
-    Clock, Dice, Link, LinkStep, MemClock, MemDice, MemLink, OsClock, OsDice, Recv, Rolled,
-    Sending, StdLink, Told, send_all,
+    Clock, Dice, Link, LinkStep, MemClock, MemDice, MemLink, MemSink, OsClock, OsDice, Put, Recv,
+    Rolled, Sending, Sink, StdLink, StdSink, Told, send_all,
 };
 use std::io::{self, ErrorKind, Read, Write};
 use std::test::Fail;
@@ -167,5 +167,16 @@ fn dice_and_clocks_play_their_lists_and_ask_the_system(rt: HostRuntime) -> Resul
     assert!(rt; dice.roll() != dice.roll());
     let mut clock = OsClock::new(rt);
     assert!(rt; matches!(clock.seconds(), Told::At(seconds) if seconds > 1_700_000_000));
+    Ok(())
+}
+
+#[test]
+fn a_sink_keeps_what_it_takes_and_fails_where_told(rt: HostRuntime) -> Result<(), Fail> {
+    let alloc = rt.alloc();
+    let mut sink = MemSink::new(alloc, vec![in alloc; 1]?);
+    let puts = (sink.put(b"ab"), sink.put(b"cd"), sink.put(b"ef"));
+    assert_eq!(rt; puts, (Put::Done, Put::Failed, Put::Done));
+    assert_eq!(rt; sink.written(), b"abef");
+    assert_eq!(rt; StdSink::new(rt).put(b""), Put::Done);
     Ok(())
 }
