@@ -1,0 +1,30 @@
+-- What a net tells of itself.
+use Rattle.std.specs.Prelude.{◌≡◌, ℕ, Option, Some, None}
+use Rattle.reql_outside.specs.Tape.{counted}
+use Rattle.reql_net.specs.Doors.{DoorTold, untouched}
+use Rattle.reql_net.specs.declared.net.NetFault.{NetFault}
+use Rattle.reql_net.specs.declared.net.NetFault.TheVariants as fault
+use Rattle.reql_net.specs.declared.net.Post.{Post}
+
+-- how often it was asked, the port and the number of posts of the last time, and how often it failed
+pub record NetTold : Type 0 where
+  pub asked : ℕ
+  pub last : Option (ℕ × ℕ)
+  pub faults : ℕ
+
+-- a net before its first call
+abbrev pub unasked : NetTold
+unasked = record { asked = 0; last = None; faults = 0 }
+
+-- one call, which failed so often
+abbrev pub asks : NetTold → ℕ → ℕ → ℕ → NetTold
+asks old port n failed = record { asked = counted old.asked 1; last = Some (port, n); faults = counted old.faults failed }
+
+-- it failed, or not
+abbrev pub Counts : NetTold → NetTold → ℕ → ℕ → NetFault → Type 0
+Counts old new port n fault.Failed = new ≡ asks old port n 1
+Counts old new port n fault.Memory = new ≡ asks old port n 0
+
+-- the door of a post has given nothing
+abbrev pub IsUntouched : {R D T : Type 0} → (R → DoorTold) → Post R D T → Type 0
+IsUntouched told post = told post.door ≡ untouched

@@ -1,0 +1,199 @@
+// Doors and nets in memory, which hand out their lists.
+ghost use Rattle.std.specs.Prelude.{◌≡◌, length, IfOk, OnErr};
+ghost use Rattle.std.specs.List.{All};
+ghost use Rattle.reql_outside.specs.Tape.{IsFresh};
+ghost use Rattle.reql_net.specs.Doors.{opening, Opens, Hands};
+ghost use Rattle.reql_net.specs.Nets.{IsUntouched, unasked};
+
+use crate::asked::Asked;
+use crate::door::{Accept, Door};
+use crate::net::{Net, NetFault, Post};
+use reql_memory::Memory;
+use reql_outside::{MemClock, MemDice, MemLink};
+use std::alloc::Global;
+use std::marker::Model;
+
+/// A door in memory, which gives the links of a list in order, and then `End`, for good.
+#[derive(Drop)]
+pub struct MemDoor {
+    links: Vec<MemLink>,
+    gave: u64,
+    over: bool,
+    broken: bool,
+    calls: u64,
+    fails: Vec<u64>,
+    faults: u64,
+}
+
+impl Model for MemDoor {
+    ghost use Rattle.std.specs.List.{All};
+    ghost use Rattle.reql_outside.specs.Tape.{IsFresh};
+    ghost use Rattle.reql_net.specs.Doors.{Listed};
+
+    ghost Value = { Listed };
+
+    ghost view = { λ d. record {
+      told = record { gave = d.gave; over = d.over; broken = d.broken; faults = d.faults };
+      links = d.links.items;
+      calls = d.calls;
+      fails = d.fails.items;
+    } };
+
+    ghost invariant = { λ d. All (λ l. IsFresh l.tape) d.links.items };
+}
+
+impl MemDoor {
+    /// A door that gives these, which are fresh; the k-th call, from 0, fails where k is in the list. It
+    /// takes no memory.
+    pub fn new(links: Vec<MemLink>, fails: Vec<u64>) -> MemDoor
+        requires { All (λ l. IsFresh l.tape) links.items }
+        ensures { result ≡ opening links.items fails.items }
+    {
+        MemDoor {
+            links,
+            gave: 0,
+            over: false,
+            broken: false,
+            calls: 0,
+            fails,
+            faults: 0,
+        }
+    }
+}
+
+impl Door for MemDoor {
+    type Link = MemLink;
+
+    ghost told = { λ d. d.told };
+
+    fn accept(&mut self) -> Accept<MemLink>
+        ensures told { Opens (λ l. l.tape) self.old.told self.new.told result }
+        ensures hands { Hands self.old self.new result }
+    {
+        let fails = self.fails.contains(&self.calls);
+        self.calls = self.calls.saturating_add(1);
+        if fails {
+            self.over = true;
+            self.broken = true;
+            self.faults = self.faults.saturating_add(1);
+            return Accept::Failed;
+        }
+        if self.links.is_empty() {
+            self.over = true;
+            return Accept::End;
+        }
+        self.gave = self.gave.saturating_add(1);
+        Accept::Link(self.links.remove(0))
+    }
+}
+
+/// A net in memory, which hands out posts of a list in order, and then posts of empty lists.
+#[derive(Drop)]
+pub struct MemNet {
+    posts: Vec<Post<MemDoor, MemDice, MemClock>>,
+    calls: u64,
+    fails: Vec<u64>,
+    told: Asked,
+}
+
+impl Model for MemNet {
+    ghost use Rattle.std.specs.List.{All};
+    ghost use Rattle.reql_net.specs.Nets.{NetTold, IsUntouched};
+
+    ghost Value = { NetTold };
+
+    ghost view = { λ n. n.told };
+
+    ghost invariant = { λ n. All (IsUntouched (λ d. d.told)) n.posts.items };
+}
+
+impl MemNet {
+    /// A net that gives these, whose doors have given nothing; the k-th call, from 0, fails where k is in
+    /// the list. It takes no memory.
+    pub fn new(posts: Vec<Post<MemDoor, MemDice, MemClock>>, fails: Vec<u64>) -> MemNet
+        requires { All (IsUntouched (λ d. d.told)) posts.items }
+        ensures { result ≡ unasked }
+    {
+        MemNet {
+            posts,
+            calls: 0,
+            fails,
+            told: Asked::new(),
+        }
+    }
+}
+
+// A post of empty lists.
+fn blank(alloc: Global) -> Post<MemDoor, MemDice, MemClock>
+    ensures { IsUntouched (λ d. d.told) result }
+{
+    Post {
+        door: MemDoor::new(Vec::new(alloc), Vec::new(alloc)),
+        dice: MemDice::new(Vec::new(alloc), Vec::new(alloc)),
+        clock: MemClock::new(Vec::new(alloc), Vec::new(alloc)),
+    }
+}
+
+// The next post of a list.
+fn next_post(
+    alloc: Global,
+    posts: &mut Vec<Post<MemDoor, MemDice, MemClock>>,
+) -> Post<MemDoor, MemDice, MemClock>
+    requires { All (IsUntouched (λ d. d.told)) posts.old.items }
+    ensures given { IsUntouched (λ d. d.told) result }
+    ensures left { All (IsUntouched (λ d. d.told)) posts.new.items }
+{
+    if posts.is_empty() {
+        return blank(alloc);
+    }
+    posts.remove(0)
+}
+
+// So many posts of a list.
+fn next_posts(
+    alloc: Global,
+    posts: &mut Vec<Post<MemDoor, MemDice, MemClock>>,
+    n: u32,
+) -> Result<Vec<Post<MemDoor, MemDice, MemClock>>, Memory>
+    requires { All (IsUntouched (λ d. d.told)) posts.old.items }
+    ensures count { IfOk result (λ given. length given.items ≡ n) }
+    ensures given { IfOk result (λ given. All (IsUntouched (λ d. d.told)) given.items) }
+    ensures left { All (IsUntouched (λ d. d.told)) posts.new.items }
+    ensures same { OnErr result (posts.new.items ≡ posts.old.items) }
+{
+    let mut given = Vec::with_capacity(alloc, n as usize)?;
+    for _ in 0..n {
+        let post = next_post(alloc, posts);
+        given.push_reserved(post);
+    }
+    Ok(given)
+}
+
+impl Net for MemNet {
+    type Door = MemDoor;
+
+    type Dice = MemDice;
+
+    type Clock = MemClock;
+
+    ghost told = { λ n. n };
+
+    fn doors(
+        &mut self,
+        alloc: Global,
+        port: u16,
+        n: u32,
+    ) -> Result<Vec<Post<MemDoor, MemDice, MemClock>>, NetFault> {
+        let fails = self.fails.contains(&self.calls);
+        self.calls = self.calls.saturating_add(1);
+        self.told.ask(port, n);
+        if fails {
+            self.told.fail();
+            return Err(NetFault::Failed);
+        }
+        match next_posts(alloc, &mut self.posts, n) {
+            Ok(given) => Ok(given),
+            Err(Memory) => Err(NetFault::Memory),
+        }
+    }
+}

@@ -1,0 +1,197 @@
+// Doors and nets over TCP on the loopback address.
+ghost use Rattle.std.specs.Prelude.{◌≡◌, length, IfOk, IfSome};
+ghost use Rattle.std.specs.List.{All};
+ghost use Rattle.reql_outside.specs.Tape.{IsFresh};
+ghost use Rattle.reql_net.specs.Doors.{untouched};
+ghost use Rattle.reql_net.specs.Nets.{IsUntouched, unasked};
+
+use crate::asked::Asked;
+use crate::bell::Bell;
+use crate::door::{Accept, Door};
+use crate::ear::Ear;
+use crate::net::{Net, NetFault, Post};
+use crate::tcp::TcpLink;
+use reql_outside::{OsClock, OsDice};
+use std::alloc::Global;
+use std::io::{self, ErrorKind};
+use std::marker::Model;
+use std::net::{Ipv4Addr, SocketAddr, SocketAddrV4, TcpListener, TcpStream};
+use std::os::fd::AsRawFd;
+use std::sync::Arc;
+
+/// The door of one worker: it takes its clients from the listener that all doors of a net share.
+#[derive(Drop)]
+pub struct TcpDoor {
+    rt: HostRuntime,
+    listener: TcpListener,
+    bell: Arc<Bell, Global>,
+    gave: u64,
+    broken: bool,
+    faults: u64,
+}
+
+impl Model for TcpDoor {
+    ghost use Rattle.reql_net.specs.Doors.{DoorTold};
+
+    ghost Value = { DoorTold };
+
+    ghost view = { λ d. record { gave = d.gave; over = d.broken; broken = d.broken; faults = d.faults } };
+}
+
+// Whether the next accept may do better: a signal came, or a client left before it was taken.
+fn passes(kind: ErrorKind) -> bool {
+    kind == ErrorKind::Interrupted || kind == ErrorKind::ConnectionAborted
+}
+
+// The next client. One that left again is passed over.
+fn next_client(listener: &TcpListener) -> Option<TcpStream> {
+    for _ in 0..u64::MAX {
+        match listener.accept() {
+            Ok((stream, _)) => return Some(stream),
+            Err(e) if passes(e.kind()) => {}
+            Err(_) => return None,
+        }
+    }
+    None
+}
+
+impl TcpDoor {
+    /// The port of the listener.
+    pub fn port(&self) -> io::Result<u16> {
+        Ok(self.listener.local_addr()?.port())
+    }
+
+    fn link(&self, stream: TcpStream) -> io::Result<TcpLink>
+        ensures { IfOk result (λ l. IsFresh l) }
+    {
+        let bell = Arc::try_clone(&self.bell)?;
+        let ear = Ear::new(self.rt.alloc(), &self.rt, bell, stream.as_raw_fd())?;
+        let link = TcpLink::new(stream, ear)?;
+        Ok(link)
+    }
+
+    fn next_link(&self) -> Option<TcpLink>
+        ensures { IfSome result (λ l. IsFresh l) }
+    {
+        let stream = next_client(&self.listener)?;
+        match self.link(stream) {
+            Ok(link) => Some(link),
+            Err(_) => None,
+        }
+    }
+}
+
+impl Door for TcpDoor {
+    type Link = TcpLink;
+
+    ghost told = { λ d. d };
+
+    fn accept(&mut self) -> Accept<TcpLink> {
+        match self.next_link() {
+            Some(link) => {
+                self.gave = self.gave.saturating_add(1);
+                Accept::Link(link)
+            }
+            None => {
+                self.broken = true;
+                self.faults = self.faults.saturating_add(1);
+                Accept::Failed
+            }
+        }
+    }
+}
+
+/// A net over TCP on the address 127.0.0.1. The doors of one call share a listener, and all links of
+/// the net one bell.
+#[derive(Drop)]
+pub struct TcpNet {
+    rt: HostRuntime,
+    bell: Arc<Bell, Global>,
+    told: Asked,
+}
+
+impl Model for TcpNet {
+    ghost use Rattle.reql_net.specs.Nets.{NetTold};
+
+    ghost Value = { NetTold };
+
+    ghost view = { λ n. n.told };
+}
+
+impl TcpNet {
+    /// The net of this machine.
+    pub fn new(rt: HostRuntime) -> io::Result<TcpNet>
+        ensures { IfOk result (λ n. n ≡ unasked) }
+    {
+        let alloc = rt.alloc();
+        let bell = Arc::new(alloc, Bell::new(alloc, &rt)?)?;
+        Ok(TcpNet {
+            rt,
+            bell,
+            told: Asked::new(),
+        })
+    }
+
+    fn door(&self, listener: &TcpListener) -> io::Result<TcpDoor>
+        ensures { IfOk result (λ d. d ≡ untouched) }
+    {
+        Ok(TcpDoor {
+            rt: self.rt,
+            listener: listener.try_clone()?,
+            bell: Arc::try_clone(&self.bell)?,
+            gave: 0,
+            broken: false,
+            faults: 0,
+        })
+    }
+
+    fn posts(
+        &self,
+        alloc: Global,
+        port: u16,
+        n: u32,
+    ) -> io::Result<Vec<Post<TcpDoor, OsDice, OsClock>>>
+        ensures count { IfOk result (λ posts. length posts.items ≡ n) }
+        ensures untouched { IfOk result (λ posts. All (IsUntouched (λ d. d)) posts.items) }
+    {
+        let address = SocketAddr::V4(SocketAddrV4::new(Ipv4Addr::LOCALHOST, port));
+        let listener = TcpListener::bind(&self.rt, address)?;
+        let mut posts = Vec::new(alloc);
+        for _ in 0..n {
+            let door = self.door(&listener)?;
+            posts.push(Post {
+                door,
+                dice: OsDice::new(self.rt),
+                clock: OsClock::new(self.rt),
+            })?;
+        }
+        Ok(posts)
+    }
+}
+
+impl Net for TcpNet {
+    type Door = TcpDoor;
+
+    type Dice = OsDice;
+
+    type Clock = OsClock;
+
+    ghost told = { λ n. n };
+
+    fn doors(
+        &mut self,
+        alloc: Global,
+        port: u16,
+        n: u32,
+    ) -> Result<Vec<Post<TcpDoor, OsDice, OsClock>>, NetFault> {
+        self.told.ask(port, n);
+        match self.posts(alloc, port, n) {
+            Ok(posts) => Ok(posts),
+            Err(e) if e.kind() == ErrorKind::OutOfMemory => Err(NetFault::Memory),
+            Err(_) => {
+                self.told.fail();
+                Err(NetFault::Failed)
+            }
+        }
+    }
+}

@@ -1,0 +1,137 @@
+use crate::{Accept, Door, MemDoor, MemNet, Net, NetFault, Post, TcpDoor, TcpLink, TcpNet};
+use reql_outside::{Link, MemClock, MemDice, MemLink, Recv, send_all};
+use std::alloc::Global;
+use std::io::{Read, Write};
+use std::net::TcpStream;
+use std::test::Fail;
+use std::thread::join;
+use std::time::{Duration, Instant};
+
+const TABLE: u32 = 7;
+
+// The door of a net over TCP that has one.
+fn one_door(rt: HostRuntime) -> Result<TcpDoor, Fail> {
+    let mut net = TcpNet::new(rt)?;
+    match net.doors(rt.alloc(), 0, 1) {
+        Ok(mut posts) => match posts.pop() {
+            Some(
+                Post {
+                    door,
+                    dice: _,
+                    clock: _,
+                },
+            ) => Ok(door),
+            None => Err(Fail::new("no post")),
+        },
+        Err(_) => Err(Fail::new("no posts")),
+    }
+}
+
+// A link that a door gave, and its client.
+fn joined(rt: &HostRuntime, door: &mut TcpDoor) -> Result<(TcpLink, TcpStream), Fail> {
+    let client = TcpStream::connect(rt, ("127.0.0.1", door.port()?))?;
+    match door.accept() {
+        Accept::Link(link) => Ok((link, client)),
+        Accept::End | Accept::Failed => Err(Fail::new("no link")),
+    }
+}
+
+// Receives until something else than Idle comes: how often it was idle before.
+fn idles(link: &mut TcpLink, waits: bool) -> (u32, Recv) {
+    let mut buf = [0u8; 16];
+    for n in 0..1000 {
+        if waits {
+            link.awaits(TABLE);
+        }
+        match link.recv(&mut buf) {
+            Recv::Idle => {}
+            other => return (n, other),
+        }
+    }
+    (1000, Recv::Idle)
+}
+
+#[test]
+fn two_links_are_served_from_two_threads(rt: HostRuntime) -> Result<(), Fail> {
+    let mut door = one_door(rt)?;
+    let (mut one, mut first) = joined(&rt, &mut door)?;
+    let (mut other, mut second) = joined(&rt, &mut door)?;
+    first.write(b"ab")?;
+    second.write(b"abc")?;
+    let (a, b) = join(
+        &rt,
+        || idles(&mut one, true).1,
+        || idles(&mut other, false).1,
+    );
+    assert_eq!(rt; (a, b), (Recv::Got(2), Recv::Got(3)));
+    assert!(rt; send_all(&mut one, b"answer"));
+    let mut buf = [0u8; 16];
+    assert_eq!(rt; first.read(&mut buf)?, 6);
+    drop(first);
+    drop(second);
+    let ends = (idles(&mut one, true).1, idles(&mut other, false).1);
+    assert_eq!(rt; ends, (Recv::End, Recv::End));
+    let record = one.finish();
+    assert_eq!(rt;
+        (record.over, record.faults_in, record.faults_out),
+        (true, 0, 0)
+    );
+    Ok(())
+}
+
+#[test]
+fn a_link_that_waits_is_woken_by_a_change_alone(rt: HostRuntime) -> Result<(), Fail> {
+    let mut door = one_door(rt)?;
+    let (mut one, first) = joined(&rt, &mut door)?;
+    let (mut other, second) = joined(&rt, &mut door)?;
+    let mut buf = [0u8; 16];
+    let begun = Instant::now(&rt)?;
+    // each ring is heard at once, also one that came before the receive began
+    for _ in 0..200 {
+        one.awaits(TABLE);
+        other.changed(TABLE);
+        assert_eq!(rt; one.recv(&mut buf), Recv::Idle);
+    }
+    assert!(rt; begun.elapsed(&rt)? < Duration::from_secs(3));
+    // a change of another table isn't heard
+    let begun = Instant::now(&rt)?;
+    for _ in 0..10 {
+        one.awaits(TABLE);
+        other.changed(TABLE + 1);
+        assert_eq!(rt; one.recv(&mut buf), Recv::Idle);
+    }
+    assert!(rt; begun.elapsed(&rt)? >= Duration::from_millis(200));
+    drop((first, second));
+    Ok(())
+}
+
+// A door with one link.
+fn listed(alloc: Global) -> Result<MemDoor, Fail> {
+    let mut links = Vec::new(alloc);
+    links.push(MemLink::new(alloc, Vec::new(alloc), Vec::new(alloc)))?;
+    Ok(MemDoor::new(links, Vec::new(alloc)))
+}
+
+#[test]
+fn a_net_in_memory_gives_its_posts_and_then_empty_ones(rt: HostRuntime) -> Result<(), Fail> {
+    let alloc = rt.alloc();
+    let mut posts = Vec::new(alloc);
+    posts.push(Post {
+        door: listed(alloc)?,
+        dice: MemDice::new(Vec::new(alloc), Vec::new(alloc)),
+        clock: MemClock::new(Vec::new(alloc), Vec::new(alloc)),
+    })?;
+    let mut net = MemNet::new(posts, vec![in alloc; 0]?);
+    let refused = matches!(net.doors(alloc, 1, 2), Err(NetFault::Failed));
+    let Ok(mut posts) = net.doors(alloc, 1, 2) else {
+        return Err(Fail::new("no posts"));
+    };
+    let mut links = 0;
+    while let Some(mut post) = posts.pop() {
+        while let Accept::Link(_) = post.door.accept() {
+            links += 1;
+        }
+    }
+    assert_eq!(rt; (refused, links), (true, 1));
+    Ok(())
+}
