@@ -1,0 +1,13 @@
+pub mod Turn
+pub mod Items
+pub mod Record
+pub mod Keeps
+pub mod Seen
+pub mod Rest
+pub mod Planning
+pub mod Told
+pub mod Ahead
+pub mod Shadows
+pub mod Hearing
+pub mod Committing
+pub mod Laws
