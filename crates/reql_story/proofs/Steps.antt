@@ -27,7 +27,7 @@ use Rattle.reql_story.specs.Books.{Books, all_arms}
 use Rattle.reql_story.specs.Tasks.{found_more, Asks, Talk, Task, Telling, told, visit, takes_up, wanted}
 use Rattle.reql_story.specs.Session.{Greeted, Clock, Dice, greets_back, turns_away, Event, Turn, Visit, Begin, Heard, Quiet, Finish, Broken, Long, Lost, Wear, Poor, On, OnNames, Say, Want, Rest, Visits, Busy, Leaving, Mach, goes_on, leaves, end_of, spoken, IsPiece, Unread, MayStarve, Step, heard, idles, turns, over, clocked, rolled, acts_on, acts_on_names}
 use Rattle.reql_story.specs.Explained.{IsHonest, Says}
-use Rattle.reql_story.specs.Worlds.{Place, sound_at, with_out, faulted, DeskPlays, Does, Goes, Why, Ended}
+use Rattle.reql_story.specs.Worlds.{OnSlot, Place, sound_at, with_out, faulted, DeskPlays, Does, Goes, Why, Ended}
 use Rattle.reql_story.specs.declared.end.End.{End}
 use Rattle.reql_story.specs.declared.end.End.TheVariants as ends
 
@@ -50,10 +50,6 @@ pub record IsInner (e : Event) : Type 0 where
   pub clock : clocked (e ∷ []) ≡ []
   pub dice : rolled (e ∷ []) ≡ []
   pub apart : IsApart e
-
--- an act on a slot, and nothing on the others
-abbrev pub OnSlot : (ℕ → Sight Order State) → (ℕ → Sight Order State) → ℕ → Act Order Told Snap Seen → Type 0
-OnSlot old new slot act = Acts machine (old slot) (new slot) act × ((t : ℕ) → t ≢ slot → new t ≡ old t)
 
 on_each : (p r : ℕ → Sight Order State) (slot : ℕ) (act : Act Order Told Snap Seen) → OnSlot p r slot act → (t : ℕ) → Plays machine (p t) (r t) (cond (nat_eq slot t) (act ∷ []) [] ++ [])
 on_each p r slot act o t = elim (eqb_tells slot t) [

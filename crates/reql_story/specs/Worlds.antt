@@ -1,18 +1,21 @@
 -- What functions of a session say of themselves: moves on the desk, whole steps, and ends.
-use Rattle.std.specs.Prelude.{◌≡◌, ◌<◌, ◌||◌, ℕ, ℤ, Bool, true, false, List, [], ◌++◌, length, Option, Some, None}
+use Rattle.std.specs.Prelude.{◌≡◌, ◌≢◌, ◌<◌, ◌||◌, ℕ, ℤ, Bool, true, false, List, [], ◌++◌, length, Option, Some, None}
 use Rattle.reql_outside.specs.Tape.{Tape, Moves, recv_failed, send_failed, counted}
 use Rattle.reql_wire.specs.Frames.{Over}
 use Rattle.reql_wire.specs.Greeting.{Greets}
 use Rattle.reql_wire.specs.declared.greeter.Greeting.TheVariants as greeting
+use Rattle.reql_shared.specs.Acts.{Act, Acts}
 use Rattle.reql_shared.specs.Parts.{between}
 use Rattle.reql_shared.specs.Plays.{Plays}
 use Rattle.reql_shared.specs.Sight.{Sight}
+use Rattle.reql_shared.specs.declared.engine.Snap.{Snap}
 use Rattle.reql_catalog.specs.Machine.{catalogue_machine}
 use Rattle.reql_catalog.specs.declared.catalog.Catalog.{Catalog}
 use Rattle.reql_catalog.specs.declared.command.CatCmd.{CatCmd}
 use Rattle.reql_hall.specs.Rooms.{Sitting, pass}
 use Rattle.reql_hall.specs.Shares.{Grew}
-use Rattle.reql_law.specs.Machine.{State, machine}
+use Rattle.reql_law.specs.Machine.{State, Seen, machine}
+use Rattle.reql_law.specs.Replies.{Answered as Told}
 use Rattle.reql_law.specs.declared.command.Order.{Order}
 use Rattle.reql_story.specs.Requests.{Arm}
 use Rattle.reql_story.specs.Tasks.{Talk}
@@ -20,6 +23,10 @@ use Rattle.reql_story.specs.Session.{Event, Mach, Leaving, Run, heard, idles, tu
 use Rattle.reql_story.specs.Explained.{DeskShare, Life, AreHonest, Explained, Says}
 use Rattle.reql_story.specs.declared.end.End.{End}
 use Rattle.reql_story.specs.declared.end.End.TheVariants as ends
+
+-- an act on a slot, and nothing on the others
+abbrev pub OnSlot : (ℕ → Sight Order State) → (ℕ → Sight Order State) → ℕ → Act Order Told Snap Seen → Type 0
+OnSlot old new slot act = Acts machine (old slot) (new slot) act × ((t : ℕ) → t ≢ slot → new t ≡ old t)
 
 -- a desk, and what the session remembers; the output of `now` isn't looked at
 pub record Place (PL : Type 0) : Type 0 where

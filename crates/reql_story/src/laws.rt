@@ -7,31 +7,31 @@ use crate::planning::Planning;
 
 /// What came in was handled in order, frame by frame, after a greeting, or is held.
 pub fn in_order<F: Planning>()
-    ensures { InOrder F.talk }
+    ensures { (f : F) → InOrder (F.talk f) }
 {}
 
 /// Every whole frame that an explained session was given was handled, in order, unless it ended by a failed send, worn,
 /// or for want of memory: what it held at its end is no whole greeting or frame where its input ended or failed, the
 /// header that is too long, or the greeting that was refused.
 pub fn frames_handled<F: Planning>()
-    ensures { FramesHandled F.talk }
+    ensures { (f : F) → FramesHandled (F.talk f) }
 {}
 
 /// A session that a hall explains is explained, with the same share, by each hall whose histories go on from there.
 pub fn kept<F: Planning>()
-    ensures { IsKept (ExplainedBy F.talk) }
+    ensures { (f : F) → IsKept (ExplainedBy (F.talk f)) }
 {}
 
 /// One more session lengthens what a desk did by its share; what the desk learns of others leaves that as it is; and
 /// the desk's own entries and its marks are those of its sessions, in order, with nothing left.
 pub fn joined<F: Planning>()
-    ensures one_more { OneMore F.talk }
-    ensures learning { Learning F.talk }
-    ensures nothing_left { NothingLeft F.talk }
+    ensures one_more { (f : F) → OneMore (F.talk f) }
+    ensures learning { (f : F) → Learning (F.talk f) }
+    ensures nothing_left { (f : F) → NothingLeft (F.talk f) }
 {}
 
 /// Every feed of an explained session: the fold of the changes that were sent of it, up to any change up to which its
 /// answers are whole, over its value at the opening, is its value there.
 pub fn feeds_hold<F: Planning>()
-    ensures { FeedsHold F.talk }
+    ensures { (f : F) → FeedsHold (F.talk f) }
 {}

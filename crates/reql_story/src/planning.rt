@@ -4,7 +4,7 @@ ghost use Rattle.reql_story.specs.Requests.{Arm, Found};
 ghost use Rattle.reql_story.specs.Tasks.{Talk};
 ghost use Rattle.reql_story.specs.Minding.{PlansMind};
 
-/// What a session is told of reading bodies and of planning.
+/// What a session is told of its key and its limits, of reading bodies, and of planning.
 ///
 /// A plan takes from no feed, closes only what it opened, and its feed has no other arms than these: `on` says of a
 /// plan, of `noreply`, of the number of open cursors and feeds, of what was found, and of the arms that are open then,
@@ -12,9 +12,9 @@ ghost use Rattle.reql_story.specs.Minding.{PlansMind};
 pub trait Planning {
     type Plan;
 
-    ghost talk: { Talk Self.Plan };
+    ghost talk: { Self → Talk Self.Plan };
 
-    ghost on: { Self.Plan → Bool → ℕ → List Found → List Arm → Type 0 };
+    ghost on: { Self → Self.Plan → Bool → ℕ → List Found → List Arm → Type 0 };
 
-    ghost minds: { PlansMind talk on };
+    ghost minds: { (p : Self) → PlansMind (talk p) (on p) };
 }

@@ -9,9 +9,9 @@ impl Planning for SamplePlans {
 
     type Plan = u64;
 
-    ghost talk = { sample };
+    ghost talk = { λ p. sample };
 
-    ghost on = { comes_by };
+    ghost on = { λ p. comes_by };
 
-    ghost minds = { sample_minds };
+    ghost minds = { λ p. sample_minds };
 }

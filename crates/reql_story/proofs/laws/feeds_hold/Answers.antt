@@ -2,5 +2,5 @@ use Rattle.reql_story.proofs.Feeding.{session_fed}
 use Rattle.reql_story.proofs.laws.feeds_hold.Goals as goal
 
 pub returns : goal.returns
-returns g c = λ seen share life good none slot feed stamp after o n le whole.
-    session_fed g.F.Planning.talk g.F.Planning.on g.F.Planning.minds slot feed seen share life good none stamp after o n le whole
+returns g c = λ f seen share life good none slot feed stamp after o n le whole.
+    session_fed (g.F.Planning.talk f) (g.F.Planning.on f) (g.F.Planning.minds f) slot feed seen share life good none stamp after o n le whole

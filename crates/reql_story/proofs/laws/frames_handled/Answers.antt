@@ -2,4 +2,4 @@ use Rattle.reql_story.proofs.Rests as rests
 use Rattle.reql_story.proofs.laws.frames_handled.Goals as goal
 
 pub returns : goal.returns
-returns g c = rests.frames_handled g.F.Planning.talk
+returns g c = λ f. rests.frames_handled (g.F.Planning.talk f)

@@ -2,10 +2,10 @@ use Rattle.reql_story.proofs.Upward as upward
 use Rattle.reql_story.proofs.laws.joined.Goals as goal
 
 pub returns-clause-one_more : goal.returns-clause-one_more
-returns-clause-one_more g c = upward.one_more g.F.Planning.talk
+returns-clause-one_more g c = λ f. upward.one_more (g.F.Planning.talk f)
 
 pub returns-clause-learning : goal.returns-clause-learning
-returns-clause-learning g c = upward.learning g.F.Planning.talk
+returns-clause-learning g c = λ f. upward.learning (g.F.Planning.talk f)
 
 pub returns-clause-nothing_left : goal.returns-clause-nothing_left
-returns-clause-nothing_left g c = upward.nothing_left g.F.Planning.talk
+returns-clause-nothing_left g c = λ f. upward.nothing_left (g.F.Planning.talk f)
