@@ -1,0 +1,4 @@
+pub mod Calls
+pub mod Stepping
+pub mod Closings
+pub mod Visits
