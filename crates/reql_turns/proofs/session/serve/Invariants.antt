@@ -1,0 +1,9 @@
+use Rattle.std.proofs.Common.{◌≡◌, [], false}
+use Rattle.reql_story.specs.Session.{Rest}
+use Rattle.reql_talk.specs.World.{world_at}
+use Rattle.reql_turns.specs.Ears.{TurnsOver}
+use Rattle.reql_turns.proofs.session.serve.Given as goal
+
+abbrev pub invariant-loop-used : goal.invariant-loop-used
+invariant-loop-used g l = (g.H.Handler.talk l.handler ≡ g.H.Handler.talk l.initial.handler)
+    × TurnsOver (g.H.Handler.talk l.initial.handler) (world_at (g.L.Link.tape l.initial.link) (g.H.Handler.work l.initial.handler) [] false Rest) (g.L.Link.tape l.link) (g.H.Handler.work l.handler) l.ears l.used

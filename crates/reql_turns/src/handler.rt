@@ -1,0 +1,53 @@
+// What answers the frames of a session.
+ghost use Rattle.std.specs.Prelude.{◌≡◌, ◌++◌, ℕ, List, [], Bool, true};
+ghost use Rattle.reql_wire.specs.Frames.{Fits, spelling};
+ghost use Rattle.reql_story.specs.Books.{all_arms};
+ghost use Rattle.reql_story.specs.Session.{Mach, Leaving, Rest, Visits};
+ghost use Rattle.reql_story.specs.Tasks.{Talk};
+ghost use Rattle.reql_story.specs.Worlds.{Does};
+ghost use Rattle.reql_story.specs.declared.end.End.{End as AnEnd};
+ghost use Rattle.reql_talk.specs.World.{AtWork, place_at, world_at, Outcome};
+
+use reql_law::Limits;
+use reql_outside::Link;
+use reql_story::End;
+use reql_wire::Frame;
+
+/// What answers the frames of a session over a link: it has a desk, a clock and dice, and keeps the session's books.
+pub trait Handler<L: Link> {
+    type Plan;
+
+    ghost talk: { Self → Talk Self.Plan };
+
+    ghost work: { Self → AtWork };
+
+    fn key(&self) -> &[u8]
+        ensures { result.now ≡ (talk self.now).key };
+
+    fn limits(&self) -> &Limits
+        ensures { result.now ≡ (talk self.now).limits };
+
+    /// A turn begins: each waiting CONTINUE is visited.
+    fn visit(&mut self, link: &mut L) -> Option<End>
+        ensures talk { talk self.new ≡ talk self.old }
+        ensures visited { (held : List ℕ) (greeted : Bool) → Outcome (talk self.old)
+            (world_at (L.tape link.old) (work self.old) held greeted Rest) (L.tape link.new)
+            (work self.new) held greeted (Visits []) 1 result };
+
+    /// A frame is taken and answered, where all visits were made.
+    fn handle(&mut self, link: &mut L, frame: &Frame) -> Option<End>
+        ensures talk { talk self.new ≡ talk self.old }
+        ensures handled { (rest : List ℕ) → Fits (talk self.old).limits.frame frame.now
+            → Outcome (talk self.old) (world_at (L.tape link.old) (work self.old)
+            (spelling frame.now ++ rest) true (Visits [])) (L.tape link.new) (work self.new) rest true
+            Rest 0 result };
+
+    /// The session leaves: what is open is closed.
+    fn leave(&mut self)
+        ensures clock { (work self.new).clock ≡ (work self.old).clock }
+        ensures dice { (work self.new).dice ≡ (work self.old).dice }
+        ensures left { (m : Mach Self.Plan) (end : AnEnd) → m.doing
+            ≡ Leaving (all_arms (work self.old).books) end
+            → Does (talk self.old) (place_at (work self.old) m)
+            (place_at (work self.new) record m { doing = Leaving [] end }) [] };
+}

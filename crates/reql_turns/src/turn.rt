@@ -1,0 +1,80 @@
+// One turn of a session.
+ghost use Rattle.std.specs.Prelude.{◌≡◌, ◌<◌, ◌≤◌, true, [], length};
+ghost use Rattle.reql_story.specs.Session.{Rest, Visits};
+ghost use Rattle.reql_talk.specs.World.{Outcome, world_at};
+ghost use Rattle.reql_turns.specs.Ears.{IsHearing, ReceivesMore, TurnFrom};
+
+use crate::ears::{Ears, Phase};
+use crate::greeting::{accept, end_of, hear_more, refuse};
+use crate::handler::Handler;
+use reql_hearing::{Received, receive};
+use reql_outside::Link;
+use reql_story::End;
+use reql_wire::{Feeder, WireFault};
+
+// Receives once, where no whole frame is held.
+fn receive_more<L: Link>(link: &mut L, feeder: &mut Feeder, buf: &mut [u8]) -> Option<End>
+    requires room { 0 < length buf.old }
+    requires most { length buf.old ≤ 65536 }
+    ensures receives { ReceivesMore (L.tape link.old) (L.tape link.new) feeder.old.held feeder.new.held result }
+    ensures limit { feeder.new.limit ≡ feeder.old.limit }
+{
+    match receive(link, feeder, buf) {
+        Received::Idle => None,
+        Received::Piece => None,
+        Received::Lost => Some(End::Memory),
+        Received::Over => Some(end_of(feeder.held())),
+        Received::Failed => Some(End::ReadFault),
+    }
+}
+
+// What a turn does after its visits, where the greeting was answered: a frame is handled where a whole one is held,
+// and else something is received.
+fn go_on<H: Handler<L>, L: Link>(
+    link: &mut L,
+    feeder: &mut Feeder,
+    handler: &mut H,
+    buf: &mut [u8],
+) -> Option<End>
+    requires room { 0 < length buf.old }
+    requires most { length buf.old ≤ 65536 }
+    ensures talk { H.talk handler.new ≡ H.talk handler.old }
+    ensures limit { feeder.new.limit ≡ feeder.old.limit }
+    ensures goes { feeder.old.limit ≡ (H.talk handler.old).limits.frame → Outcome (H.talk handler.old)
+        (world_at (L.tape link.old) (H.work handler.old) feeder.old.held true (Visits []))
+        (L.tape link.new) (H.work handler.new) feeder.new.held true Rest 0 result }
+{
+    match feeder.take() {
+        Ok(Some(frame)) => handler.handle(link, &frame),
+        Ok(None) => receive_more(link, feeder, buf),
+        Err(WireFault::TooLong { len }) => Some(End::TooLong { len }),
+        Err(WireFault::Memory) => Some(End::Memory),
+    }
+}
+
+/// One turn.
+pub(crate) fn turn<H: Handler<L>, L: Link>(
+    link: &mut L,
+    ears: &mut Ears,
+    handler: &mut H,
+    buf: &mut [u8],
+) -> Option<End>
+    requires room { 0 < length buf.old }
+    requires most { length buf.old ≤ 65536 }
+    requires hearing { IsHearing (H.talk handler.old) (H.work handler.old) ears.old }
+    ensures talk { H.talk handler.new ≡ H.talk handler.old }
+    ensures turned { TurnFrom (H.talk handler.old) (L.tape link.old) (H.work handler.old) ears.old
+        (L.tape link.new) (H.work handler.new) ears.new result }
+{
+    match ears.phase {
+        Phase::Waiting => hear_more::<H, L>(link, ears, buf),
+        Phase::Whole => accept::<H, L>(link, ears),
+        Phase::Wrong(fault) => refuse::<H, L>(link, ears, fault),
+        Phase::Over => {
+            if let Some(end) = handler.visit(link) {
+                return Some(end);
+            }
+            go_on(link, &mut ears.feeder, handler, buf)
+        }
+    }
+}
