@@ -144,7 +144,7 @@ module _ {PL : Type 0} (k : Talk PL) (on : PL → Bool → ℕ → List Found �
   ok_settle b token arms a p f h n = ok_close b token arms Settled (Some (fitted k a)) p f h (no_more_sent a n)
 
   pub ok_now : (b : Books) (token : ℕ) (a : Answer) (p : List (ℕ × Plain)) → F b p → sent_in σ φ a ≡ [] → OkNext (tell_now k b token a) p
-  ok_now b token a p f n = ok_tell b token a b [] None p (fine_closed σ φ c token b.feeds p f) no_arm (record { rest = p; said = ap (λ z. z ++ p) (sym n); next = f; lost = f; then_so = tt })
+  ok_now b token a p f n = ok_only b token (fitted k a) p f (no_more_sent a n)
 
   -- an answer with no changes of the arm, after which the feeds are as good
   pub ok_other : (b : Books) (token : ℕ) (a : Answer) (kept : Books) (p : List (ℕ × Plain)) → F b p → F kept p → sent_in σ φ a ≡ [] → OkNext (tell k b token a kept [] None) p

@@ -28,4 +28,4 @@ streamed = (refl, refl, refl)
 
 pub spoken : Spoken
 unfolding body serde_json_on_literals digits
-spoken = (refl, refl, refl, refl, refl, refl, refl, refl, refl, refl, refl, refl)
+spoken = (refl, refl, refl, refl, refl, refl, refl, refl, refl, refl, refl, refl, refl, refl)

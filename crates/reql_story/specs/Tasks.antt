@@ -173,8 +173,10 @@ module _ {PL : Type 0} (k : Talk PL) where
   abbrev pub tell : Books → ℕ → Answer → Books → List Arm → Option (List Arm) → Next PL
   tell b token a kept arms lose = cond (is_long a) (cut b token a arms) (at b (Telling token a kept lose None))
 
+  -- An answer that is of no plan, cursor or feed, as a refusal is: what is open on its token stays open, also where a fault takes
+  -- its place.
   abbrev pub tell_now : Books → ℕ → Answer → Next PL
-  tell_now b token a = tell b token a b [] None
+  tell_now b token a = only_tell b token (fitted a)
 
   -- an answer of a plan, after the arms that it left open were closed
   abbrev pub settle : Books → ℕ → List Arm → Answer → Next PL

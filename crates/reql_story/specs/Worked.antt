@@ -10,7 +10,7 @@ use Rattle.reql_law.specs.Replies.{Answered as Told}
 use Rattle.reql_law.specs.declared.command.Cmd.TheVariants as cmds
 use Rattle.reql_law.specs.declared.reply.Saved.TheVariants as saved
 use Rattle.reql_table_machine.specs.declared.command.Said.TheVariants as said
-use Rattle.reql_story.specs.Requests.{Start, Continue, Stop, Arm, Skip, Change, Shown, Stream, SawNames, RanSlot, Answer, Client, Failed, Internal, Atom, Last, Part, Batch, Waited, Info, Found, point, stamped}
+use Rattle.reql_story.specs.Requests.{Start, Continue, Stop, NoreplyWait, Arm, Skip, Change, Shown, Stream, SawNames, RanSlot, Answer, Client, Failed, Internal, Atom, Last, Part, Batch, Waited, Info, Found, point, stamped}
 use Rattle.reql_story.specs.Books.{Open, Books, no_books}
 use Rattle.reql_story.specs.Bodies.{body, in_use, not_open, at_wait}
 use Rattle.reql_story.specs.Tasks.{Talk, is_long, cut_to, Task, Planning, Visiting, Telling, Closing, Stops, Drops, Settled, done, at, only_tell, wanted, denied, told, begin, takes_up, ran, found_more, comes_to, fitted, tell, tell_now}
@@ -136,7 +136,7 @@ Streamed =
     × (begin sample cursor_books 2 Continue ≡ tell sample cursor_books 2 (Last (number (pos 3) ∷ []) None) looked [] None)
     × (begin sample cursor_books 2 Stop ≡ at cursor_books (Telling 2 (Last [] None) looked None None))
 
--- the bodies of answers, and an answer that is too long for its limit with the fault that it gives way to
+-- the bodies of answers, and an answer that is too long for its limit with the fault that it gives way to; such a refusal closes nothing
 abbrev inserted : Answer
 inserted = Batch (4 ∷ []) (record { at = 1; arm = second; sort = Change; stamp = 1; item = changed } ∷ []) (Some (stamped 0 (point 0 1 0 ∷ point 1 3 1 ∷ [])))
   where
@@ -159,4 +159,6 @@ Spoken =
     × (body (Failed errors.OpFailed dropped (Some (stamped 1 (point 0 2 0 ∷ [])))) ≡ codes "{\"b\":[],\"e\":4100000,\"r\":[\"Table `test.docs` was dropped.\"],\"s\":{\"c\":1,\"t\":[[0,2,0]]},\"t\":18}")
     × (is_long sample (Last [] None) ≡ false)
     × (is_long small (Last [] None) ≡ true)
+    × (begin small open_books 9 NoreplyWait ≡ only_tell open_books 9 (cut_to small Waited))
+    × (begin small open_books 9 (Start false 0) ≡ only_tell open_books 9 (cut_to small (Client (in_use 9))))
     × (cut_to small (Atom null (stamped 0 [])) ≡ Failed errors.ResourceLimit (codes "Answer over size limit `20`.") (Some (stamped 0 [])))
