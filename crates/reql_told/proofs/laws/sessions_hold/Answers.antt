@@ -1,0 +1,29 @@
+use Rattle.reql_story.proofs.Feeding.{session_fed}
+use Rattle.reql_story.proofs.Orders.{handled}
+use Rattle.reql_story.proofs.Rests as rests
+use Rattle.reql_story.proofs.Upward as upward
+use Rattle.reql_told.specs.Told.{talk, comes_by}
+use Rattle.reql_told.specs.Minding.{plans_are_told}
+use Rattle.reql_told.proofs.laws.sessions_hold.Goals as goal
+
+pub returns-clause-in_order : goal.returns-clause-in_order
+returns-clause-in_order c = λ key limits. handled (talk key limits)
+
+pub returns-clause-frames_handled : goal.returns-clause-frames_handled
+returns-clause-frames_handled c = λ key limits. rests.frames_handled (talk key limits)
+
+pub returns-clause-kept : goal.returns-clause-kept
+returns-clause-kept c = λ key limits. upward.kept (talk key limits)
+
+pub returns-clause-one_more : goal.returns-clause-one_more
+returns-clause-one_more c = λ key limits. upward.one_more (talk key limits)
+
+pub returns-clause-learning : goal.returns-clause-learning
+returns-clause-learning c = λ key limits. upward.learning (talk key limits)
+
+pub returns-clause-nothing_left : goal.returns-clause-nothing_left
+returns-clause-nothing_left c = λ key limits. upward.nothing_left (talk key limits)
+
+pub returns-clause-feeds_hold : goal.returns-clause-feeds_hold
+returns-clause-feeds_hold c = λ key limits seen share life good none slot feed stamp after o n le whole.
+    session_fed (talk key limits) (comes_by limits) (plans_are_told key limits) slot feed seen share life good none stamp after o n le whole

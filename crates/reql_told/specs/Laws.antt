@@ -1,0 +1,47 @@
+-- What is so of sessions that are told of these plans, whatever their key and their limits.
+use Rattle.std.specs.Prelude.{◌≡◌, ℕ, List, min}
+use Rattle.reql_admin.specs.Server.{server}
+use Rattle.reql_json.specs.Showing.{shown}
+use Rattle.reql_hall.specs.Shares.{IsKept}
+use Rattle.reql_law.specs.declared.limits.Limits.{Limits}
+use Rattle.reql_plan_law.specs.declared.parts.Plan.{Plan}
+use Rattle.reql_story.specs.Bodies.{server_info}
+use Rattle.reql_story.specs.Explained.{ExplainedBy}
+use Rattle.reql_story.specs.Laws as story
+use Rattle.reql_story.specs.Minding.{PlansMind}
+use Rattle.reql_story.specs.Tasks.{batch_size}
+use Rattle.reql_told.specs.Told.{talk, comes_by}
+
+-- plans mind their feeds
+abbrev pub PlansAreTold : Type 0
+PlansAreTold = (key : List ℕ) (limits : Limits) → PlansMind (talk key limits) (comes_by limits)
+
+-- a session cuts a plan's answers by the batch that the plan counts by
+abbrev pub BatchesAgree : Type 0
+BatchesAgree = (key : List ℕ) (limits : Limits) (plan : Plan) → batch_size (talk key limits) plan ≡ min plan.batch limits.batch
+
+-- SERVER_INFO is answered by what the server tells of itself
+abbrev pub InfoIsServers : Type 0
+InfoIsServers = server_info ≡ shown server
+
+-- the laws of explained sessions
+abbrev pub AllInOrder : Type 0
+AllInOrder = (key : List ℕ) (limits : Limits) → story.InOrder (talk key limits)
+
+abbrev pub AllFramesHandled : Type 0
+AllFramesHandled = (key : List ℕ) (limits : Limits) → story.FramesHandled (talk key limits)
+
+abbrev pub AllKept : Type 0
+AllKept = (key : List ℕ) (limits : Limits) → IsKept (ExplainedBy (talk key limits))
+
+abbrev pub AllOneMore : Type 0
+AllOneMore = (key : List ℕ) (limits : Limits) → story.OneMore (talk key limits)
+
+abbrev pub AllLearning : Type 0
+AllLearning = (key : List ℕ) (limits : Limits) → story.Learning (talk key limits)
+
+abbrev pub AllNothingLeft : Type 0
+AllNothingLeft = (key : List ℕ) (limits : Limits) → story.NothingLeft (talk key limits)
+
+abbrev pub AllFeedsHold : Type 0
+AllFeedsHold = (key : List ℕ) (limits : Limits) → story.FeedsHold (talk key limits)

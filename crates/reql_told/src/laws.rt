@@ -1,0 +1,37 @@
+// Laws of sessions that plan ReQL.
+ghost use Rattle.reql_told.specs.Laws.{PlansAreTold, BatchesAgree, InfoIsServers, AllInOrder, AllFramesHandled, AllKept, AllOneMore, AllLearning, AllNothingLeft, AllFeedsHold};
+ghost use Rattle.reql_told.specs.Refusing.{FirstRefusal, ShapeRefusal};
+
+/// Plans, as a session is told of them, take from no feed, close only what they opened and is open still, and tell of
+/// no other feeds, with opening items and states alone; and a session cuts their answers by the batch that they count by.
+pub fn plans_are_told()
+    ensures told { PlansAreTold }
+    ensures batches { BatchesAgree }
+{}
+
+/// A START is refused by the first of its refusals before anything is looked at: that its token has something open, the
+/// faults of its term, those of its options, and those of planning; a body that has no shape of a query before all of
+/// these. Where there is none, it is planned.
+pub fn first_refusal()
+    ensures shape { ShapeRefusal }
+    ensures first { FirstRefusal }
+{}
+
+/// SERVER_INFO is answered by what the server tells of itself.
+pub fn server_is_told()
+    ensures { InfoIsServers }
+{}
+
+/// The laws of explained sessions, whatever their key and their limits: what came in was handled in order; every whole
+/// frame was handled, but for a failed send, a worn session or want of memory; a hall whose histories go on explains a
+/// session still; the sessions of a desk divide what it did; and every feed that a session opened folds to its query's
+/// value at every change up to which its answers are whole.
+pub fn sessions_hold()
+    ensures in_order { AllInOrder }
+    ensures frames_handled { AllFramesHandled }
+    ensures kept { AllKept }
+    ensures one_more { AllOneMore }
+    ensures learning { AllLearning }
+    ensures nothing_left { AllNothingLeft }
+    ensures feeds_hold { AllFeedsHold }
+{}

@@ -1,0 +1,10 @@
+//! Sessions that plan ReQL: what a session is told of reading bodies and of planning. Definitions and laws, no code.
+#![tactic(auto)]
+
+mod laws;
+mod plans;
+mod rows;
+
+pub use laws::{first_refusal, plans_are_told, server_is_told, sessions_hold};
+pub use plans::{QueryPlans, Serving};
+pub use rows::worked_rows;
