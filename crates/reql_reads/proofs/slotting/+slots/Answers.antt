@@ -1,0 +1,7 @@
+use Rattle.std.proofs.Common.{sym, arith}
+use Rattle.reql_term.specs.View.{form_of}
+use Rattle.reql_faults.proofs.Below.{field_below}
+use Rattle.reql_reads.proofs.slotting.+slots.Goals as goal
+
+pub add_named-add_slots-requires : goal.add_named-add_slots-requires
+add_named-add_slots-requires t c = let below = field_below c.args.fields.now c.loop-field.place c.in-Some.field.0.now (form_of c.in-Some.field.1.now) (sym c.in-Some.ensures.found) in grind (arith, below)

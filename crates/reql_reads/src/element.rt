@@ -1,0 +1,101 @@
+// An element of a FOR_EACH in the place of its variable.
+ghost use Rattle.std.specs.Prelude.{◌≡◌, nat_eq, IfOk, option_map};
+ghost use Rattle.reql_datum.specs.Outcome.{Gives};
+ghost use Rattle.reql_datum.specs.View.{plain};
+ghost use Rattle.reql_term.specs.Form.{literal};
+ghost use Rattle.reql_term.specs.View.{form_of};
+ghost use Rattle.reql_faults.specs.Faults.{is_bound as is_bound_of, is_one as is_one_of};
+ghost use Rattle.reql_plan_law.specs.Reads.{unless_bound, variable_rule, parameter_rule, with_element as with_element_of};
+
+use reql_datum::{Datum, Fault, Memory};
+use reql_rewrite::{Rule, rewrite};
+use reql_term::Term;
+use std::alloc::Global;
+
+/// The rule by which a variable becomes an element, up to functions that bind it anew.
+#[derive(Drop)]
+struct OfVariable<'a> {
+    id: u64,
+    element: &'a Datum,
+}
+
+/// The rule by which the parameter of the nearest function becomes an element, up to functions of one
+/// parameter.
+#[derive(Drop)]
+struct OfParameter<'a> {
+    element: &'a Datum,
+}
+
+impl Rule for OfVariable<'_> {
+    ghost rule = { λ s. variable_rule s.id (plain s.element.now) };
+
+    fn instead(&self, _alloc: Global, term: &Term) -> Result<Option<Term>, Fault> {
+        match term {
+            Term::Var(id) => Ok(literal_if(*id == self.id, self.element)?),
+            Term::Func(ids, _) => Ok(same_if(is_bound(self.id, ids.as_slice()), term)?),
+            _ => Ok(None),
+        }
+    }
+}
+
+impl Rule for OfParameter<'_> {
+    ghost rule = { λ s. parameter_rule (plain s.element.now) };
+
+    fn instead(&self, _alloc: Global, term: &Term) -> Result<Option<Term>, Fault> {
+        match term {
+            Term::Row => Ok(Some(Term::Lit(self.element.copy()?))),
+            Term::Func(ids, _) => Ok(same_if(is_one(ids.as_slice()), term)?),
+            _ => Ok(None),
+        }
+    }
+}
+
+/// The term with an element in the place of the variable of this id, and of the parameter of the
+/// nearest function of one.
+pub fn with_element(alloc: Global, id: u64, element: &Datum, term: &Term) -> Result<Term, Fault>
+    ensures { Gives form_of result (with_element_of id (plain element.now) (form_of term.now)) }
+{
+    let placed = rewrite(alloc, &OfVariable { id, element }, term)?;
+    rewrite(alloc, &OfParameter { element }, &placed)
+}
+
+// The element as a literal, where it takes the place.
+fn literal_if(is_it: bool, element: &Datum) -> Result<Option<Term>, Memory>
+    ensures { IfOk result (λ o. option_map form_of o
+        ≡ unless_bound is_it (literal (plain element.now))) }
+{
+    if is_it {
+        return Ok(Some(Term::Lit(element.copy()?)));
+    }
+    Ok(None)
+}
+
+// The same term, where nothing in it is replaced.
+fn same_if(is_bound: bool, term: &Term) -> Result<Option<Term>, Memory>
+    ensures { IfOk result (λ o. option_map form_of o ≡ unless_bound is_bound (form_of term.now)) }
+{
+    if is_bound {
+        return Ok(Some(term.copy()?));
+    }
+    Ok(None)
+}
+
+fn is_bound(id: u64, ids: &[u64]) -> bool
+    ensures { result ≡ is_bound_of id ids.now }
+{
+    for known in ids {
+        if *known == id {
+            return true;
+        }
+    }
+    false
+}
+
+fn is_one(ids: &[u64]) -> bool
+    ensures { result ≡ is_one_of ids.now }
+{
+    match ids {
+        [_] => true,
+        _ => false,
+    }
+}
