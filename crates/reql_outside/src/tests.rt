@@ -176,7 +176,7 @@ fn a_sink_keeps_what_it_takes_and_fails_where_told(rt: HostRuntime) -> Result<()
     let mut sink = MemSink::new(alloc, vec![in alloc; 1]?);
     let puts = (sink.put(b"ab"), sink.put(b"cd"), sink.put(b"ef"));
     assert_eq!(rt; puts, (Put::Done, Put::Failed, Put::Done));
-    assert_eq!(rt; sink.written(), b"abef");
+    assert_eq!(rt; sink.written(), b"abef".as_slice());
     assert_eq!(rt; StdSink::new(rt).put(b""), Put::Done);
     Ok(())
 }
