@@ -1,3 +1,6 @@
+ghost use Rattle.std.specs.Prelude.{◌≡◌, IfOk};
+ghost use Rattle.reql_net.specs.Doors.{untouched};
+
 use crate::{Accept, Door, MemDoor, MemNet, Net, NetFault, Post, TcpDoor, TcpLink, TcpNet};
 use reql_outside::{Link, MemClock, MemDice, MemLink, Recv, send_all};
 use std::alloc::Global;
@@ -106,10 +109,23 @@ fn a_link_that_waits_is_woken_by_a_change_alone(rt: HostRuntime) -> Result<(), F
 }
 
 // A door with one link.
-fn listed(alloc: Global) -> Result<MemDoor, Fail> {
+fn listed(alloc: Global) -> Result<MemDoor, Fail>
+    ensures { IfOk result (λ d. d.told ≡ untouched) }
+{
     let mut links = Vec::new(alloc);
     links.push(MemLink::new(alloc, Vec::new(alloc), Vec::new(alloc)))?;
     Ok(MemDoor::new(links, Vec::new(alloc)))
+}
+
+// Whether the door of a post has a link.
+fn gives_a_link(post: Option<Post<MemDoor, MemDice, MemClock>>) -> bool {
+    let Some(mut post) = post else {
+        return false;
+    };
+    match post.door.accept() {
+        Accept::Link(_) => true,
+        Accept::End | Accept::Failed => false,
+    }
 }
 
 #[test]
@@ -126,12 +142,8 @@ fn a_net_in_memory_gives_its_posts_and_then_empty_ones(rt: HostRuntime) -> Resul
     let Ok(mut posts) = net.doors(alloc, 1, 2) else {
         return Err(Fail::new("no posts"));
     };
-    let mut links = 0;
-    while let Some(mut post) = posts.pop() {
-        while let Accept::Link(_) = post.door.accept() {
-            links += 1;
-        }
-    }
-    assert_eq!(rt; (refused, links), (true, 1));
+    let last = gives_a_link(posts.pop());
+    let first = gives_a_link(posts.pop());
+    assert_eq!(rt; (refused, first, last), (true, true, false));
     Ok(())
 }
