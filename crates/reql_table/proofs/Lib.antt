@@ -7,4 +7,6 @@ mod Turned
 mod Rising
 mod Filing
 mod Listed
+mod Owned
+pub mod Given
 mod Sends

@@ -17,7 +17,7 @@ use Rattle.reql_rules.specs.Lists.{Bytes}
 use Rattle.reql_term.specs.Views.{Document, Index}
 use Rattle.reql_write_law.specs.Treated.{set_at}
 use Rattle.reql_table.specs.Edits.{renamed, key_at, seen_if, turned}
-use Rattle.reql_table.specs.Seen.{Numbered, Standing, unnumbered, numbered, numbered_of, indexes_of, IsFiled, Keeps}
+use Rattle.reql_table.specs.Seen.{Numbered, Standing, unnumbered, numbered, numbered_of, indexes_of, AreNumbered, IsFiled, Keeps}
 use Rattle.reql_table.specs.declared.filed.FiledIndex.{FiledIndex}
 use Rattle.reql_table.specs.declared.refile.Turn.{Turn}
 
@@ -45,18 +45,20 @@ pub renamed_unnumbered : (old new : Bytes) (ms : List (Bytes × Numbered)) → u
 renamed_unnumbered old new ms = moved_at old new (find old ms) ms ∙ ap (λ o. renamed old new o (unnumbered ms)) (sym (find_unnumbered old ms))
 
 -- ---- what a table keeps
-pub keeps_those : (docs new : List Document) (is js : List FiledIndex) → new ≡ docs → js ≡ is → AreRisingBy order docs → AreRising (map numbered is) → AllByRecursion (IsFiled docs) is → Keeps new js
-keeps_those docs new is js e f up names filed =
-    subst (λ ds. Keeps ds js) (sym e) (subst (Keeps docs) (sym f) (record { documents_rise = up; names_rise = names; filed = filed }))
+pub keeps_those : (docs new : List Document) (is js : List FiledIndex) → new ≡ docs → js ≡ is → AreRisingBy order docs → AreRising (map numbered is) → AllByRecursion (IsFiled docs) is
+    → (next : ℕ) → AreNumbered (map numbered is) next → Keeps new js next
+keeps_those docs new is js e f up names filed next numbers =
+    subst (λ ds. Keeps ds js next) (sym e) (subst (λ is. Keeps docs is next) (sym f) (record { documents_rise = up; names_rise = names; filed = filed; numbers = numbers }))
 
 turned_rises : (k : Plain) (new : Option Plain) (docs : List Document) → AreRisingBy order docs → AreRisingBy order (set_at k new docs)
 turned_rises k None docs up = rising_without order order_total k docs up
 turned_rises k (Some d) docs up = rising_put order order_total k d docs up
 
 pub keeps_turned : (t : Turn) (docs new : List Document) (is rest js : List FiledIndex) → new ≡ turned t docs → js ≡ rest → map numbered rest ≡ map numbered is → AreRisingBy order docs → AreRising (map numbered is)
-    → AllByRecursion (IsFiled (turned t docs)) rest → Keeps new js
-keeps_turned t docs new is rest js e f g up names filed =
-    keeps_those (turned t docs) new rest js e f (turned_rises (key_at t) (seen_if t.new) docs up) (subst AreRising (sym g) names) filed
+    → AllByRecursion (IsFiled (turned t docs)) rest → (ms : List (Bytes × Numbered)) (next after : ℕ) → map numbered is ≡ ms → after ≡ next → AreNumbered ms next → Keeps new js after
+keeps_turned t docs new is rest js e f g up names filed ms next after h same numbers =
+    keeps_those (turned t docs) new rest js e f (turned_rises (key_at t) (seen_if t.new) docs up) (subst AreRising (sym g) names) filed after
+    (subst (AreNumbered (map numbered rest)) (sym same) (subst (λ ms. AreNumbered ms next) (sym (g ∙ h)) numbers))
 
 -- ---- an index in the place of the one of its name
 text_exact : (s t : Bytes) → text_order s t ≡ Equal → s ≡ t

@@ -1,7 +1,6 @@
 -- The index of a name, as a look finds it, and what a table knows of an index that is there.
 use Rattle.std.proofs.Common.{◌≡◌, List, [], ◌∷◌, map, Some, refl, sym, ap, subst}
 use Rattle.std.specs.List.{AllByRecursion}
-use Rattle.std.specs.List.Sorted.{IsStrictlySortedBy}
 use Rattle.std.specs.Map.{keys_of}
 use Rattle.reql_memory.specs.Sorted.{AreRisingBy}
 use Rattle.reql_datum.specs.Members.{AreRising, find}
@@ -11,7 +10,7 @@ use Rattle.reql_term.specs.Views.{Document, Index, index_of, AreInOrder, AreOf}
 use Rattle.reql_value.specs.Index.{index_list}
 use Rattle.reql_value.proofs.IndexLists.{in_order}
 use Rattle.reql_rules.specs.Lists.{Bytes}
-use Rattle.reql_table.specs.Seen.{Numbered, Standing, unnumbered, documents_of, indexes_of, entries_at, numbered, IsFiled, Keeps}
+use Rattle.reql_table.specs.Seen.{Numbered, Standing, unnumbered, documents_of, indexes_of, entries_at, numbered, IsFiled}
 use Rattle.reql_table.specs.declared.filed.FiledIndex.{FiledIndex}
 
 abbrev named : FiledIndex → Bytes × Index
@@ -38,11 +37,6 @@ there_order t name i up is = subst AreInOrder (sym (there_list t name i is)) (in
 
 pub there_held : (t : Standing) (name : Bytes) (i : Index) → AreRisingBy order (documents_of t) → find name (indexes_of t) ≡ Some i → AreOf (documents_of t) (entries_at t name)
 there_held t name i up is = subst (AreOf (documents_of t)) (sym (there_list t name i is)) (in_order (documents_of t) i up).1
-
--- a table of nothing
-pub keeps_nothing : Keeps [] []
-unfolding IsStrictlySortedBy
-keeps_nothing = record { documents_rise = tt; names_rise = tt; filed = tt }
 
 -- each index from a place on is filed
 pub filed_on : (docs : List Document) (i : FiledIndex) (is js : List FiledIndex) → js ≡ i ∷ is → AllByRecursion (IsFiled docs) js → IsFiled docs i × AllByRecursion (IsFiled docs) is

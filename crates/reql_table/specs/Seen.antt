@@ -1,5 +1,5 @@
 -- What a table over trees stands for: its documents by rising key, and its indexes by rising name, each with the number of its tree.
-use Rattle.std.specs.Prelude.{◌≡◌, ℕ, List, map, Option, Some, None, option_map}
+use Rattle.std.specs.Prelude.{◌≡◌, ◌<◌, ℕ, List, map, Option, Some, None, option_map}
 use Rattle.std.specs.Borrow.{Bor}
 use Rattle.std.specs.List.{AllByRecursion, filter}
 use Rattle.std.specs.Ordering.{is_eq}
@@ -47,11 +47,34 @@ numbered i = (i.def.name, (i.number, index_of i.def))
 abbrev pub IsFiled : List Document → FiledIndex → Type 0
 IsFiled docs i = i.entries ≡ pairs_of (index_list docs (index_of i.def))
 
+-- what holds of each index with its number
+abbrev pub Each : (Numbered → Type 0) → List (Bytes × Numbered) → Type 0
+Each P = AllByRecursion (λ m. P m.1)
+
+-- a number that was given: above 0, and below the next one
+abbrev pub IsGiven : ℕ → Numbered → Type 0
+IsGiven next a = (0 < a.0) × (a.0 < next)
+
+-- one number is one index
+abbrev pub IsAlike : Numbered → Numbered → Type 0
+IsAlike a b = a.0 ≡ b.0 → a.1 ≡ b.1
+
+-- the numbers of indexes, of which the next one is free
+pub record AreNumbered (ms : List (Bytes × Numbered)) (next : ℕ) : Type 0 where
+  pub some : 0 < next
+  pub given : Each (IsGiven next) ms
+  pub alike : Each (λ a. Each (IsAlike a) ms) ms
+
+-- each number of a tree was given once
+abbrev pub GivesNumbers : Standing → Type 0
+GivesNumbers t = AreNumbered (numbered_of t) (next_of t)
+
 -- what a table keeps
-pub record Keeps (docs : List Document) (is : List FiledIndex) : Type 0 where
+pub record Keeps (docs : List Document) (is : List FiledIndex) (next : ℕ) : Type 0 where
   pub documents_rise : AreRisingBy order docs
   pub names_rise : AreRising (map numbered is)
   pub filed : AllByRecursion (IsFiled docs) is
+  pub numbers : AreNumbered (map numbered is) next
 
 -- what a look for the index of a name finds
 abbrev pub FindsOne : Standing → Bytes → Option FiledIndex → Type 0

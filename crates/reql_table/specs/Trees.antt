@@ -1,5 +1,5 @@
 -- The trees of a table by their numbers: that of number 0 has the documents, the others have the entries of the indexes.
-use Rattle.std.specs.Prelude.{◌≡◌, ℕ, nat_eq, List, [], ◌∷◌, Bool, false, if◌then◌else◌, Option, Some, None, is_some, option_map}
+use Rattle.std.specs.Prelude.{◌≡◌, ◌<◌, ◌≤◌, ℕ, nat_eq, List, [], ◌∷◌, Bool, false, if◌then◌else◌, Option, Some, None, is_some, option_map}
 use Rattle.std.specs.Option.{unwrap_or}
 use Rattle.reql_datum.specs.Members.{find}
 use Rattle.reql_datum.specs.Plain.{Plain}
@@ -7,7 +7,7 @@ use Rattle.reql_rules.specs.Lists.{Bytes}
 use Rattle.reql_term.specs.Views.{Document, Index}
 use Rattle.reql_value.specs.Index.{index_list}
 use Rattle.reql_table.specs.Keys.{pairs_of}
-use Rattle.reql_table.specs.Seen.{Numbered, Standing, documents_of, numbered_of}
+use Rattle.reql_table.specs.Seen.{Numbered, Standing, documents_of, numbered_of, next_of}
 
 -- the definition of the index whose tree has a number
 abbrev pub index_at : ℕ → List (Bytes × Numbered) → Option Index
@@ -36,3 +36,8 @@ number_of (Some name) t = option_map (λ m. m.0) (find name (numbered_of t))
 -- each index has a tree of its own: that of its number is no other's
 abbrev pub HasOwnTrees : Standing → Type 0
 HasOwnTrees t = (name : Bytes) (m : Numbered) → find name (numbered_of t) ≡ Some m → (nat_eq m.0 0 ≡ false) × (index_at m.0 (numbered_of t) ≡ Some m.1)
+
+-- after edits of t: no number was given again, so a tree of u whose number t had given is t's tree of that number
+pub record Follows (t u : Standing) : Type 0 where
+  pub next : next_of t ≤ next_of u
+  pub trees : (n : ℕ) (i : Index) → n < next_of t → index_at n (numbered_of u) ≡ Some i → index_at n (numbered_of t) ≡ Some i

@@ -1,10 +1,11 @@
 // A table with an index more, one less, or one of another name.
-ghost use Rattle.std.specs.Prelude.{◌≡◌, ◌+◌, map, IfOk};
+ghost use Rattle.std.specs.Prelude.{◌≡◌, ◌+◌, map, Some, IfOk};
 ghost use Rattle.std.specs.List.{AllByRecursion};
 ghost use Rattle.reql_datum.specs.Members.{AreRising, find, put, without};
 ghost use Rattle.reql_term.specs.Views.{index_of};
 ghost use Rattle.reql_table.specs.Edits.{renamed};
-ghost use Rattle.reql_table.specs.Seen.{documents_of, indexes_of, next_of, numbered_of, numbered, IsFiled};
+ghost use Rattle.reql_table.specs.Seen.{documents_of, indexes_of, next_of, numbered_of, numbered, AreNumbered, IsFiled};
+ghost use Rattle.reql_table.specs.Trees.{Follows};
 
 use crate::filed::FiledIndex;
 use crate::indexes::{copies_of, held, put_index, without_index};
@@ -19,6 +20,7 @@ impl Table {
     fn with_indexes(&self, indexes: Vec<FiledIndex>, next: u128) -> Result<Table, Memory>
         requires rising { AreRising (map numbered indexes.items) }
         requires filed { AllByRecursion (IsFiled (documents_of self.now)) indexes.items }
+        requires numbers { AreNumbered (map numbered indexes.items) next }
         ensures documents { IfOk result (λ t. documents_of t ≡ documents_of self.now) }
         ensures numbered { IfOk result (λ t. numbered_of t ≡ map numbered indexes.items) }
         ensures next { IfOk result (λ t. next_of t ≡ next) }
@@ -42,6 +44,7 @@ impl Table {
         ensures numbered { IfOk result (λ t. numbered_of t
             ≡ put def.now.name (next_of self.now, index_of def.now) (numbered_of self.now)) }
         ensures next { IfOk result (λ t. next_of t ≡ next_of self.now + 1) }
+        ensures follows { IfOk result (λ t. Follows self.now t) }
     {
         let Some(next) = self.next.checked_add(1) else {
             return Err(Memory);
@@ -66,6 +69,7 @@ impl Table {
         ensures numbered { IfOk result (λ t. numbered_of t
             ≡ without name.now (numbered_of self.now)) }
         ensures next { IfOk result (λ t. next_of t ≡ next_of self.now) }
+        ensures follows { IfOk result (λ t. Follows self.now t) }
     {
         let copies = copies_of(self.alloc, self.all_indexes())?;
         let indexes = without_index(copies, name);
@@ -77,10 +81,12 @@ impl Table {
     #[tactic(auto)]
     fn moved(&self, index: &FiledIndex, old: &str, new: &Name) -> Result<Table, Memory>
         requires filed { IsFiled (documents_of self.now) index.now }
+        requires numbered { Some (numbered index.now).1 ≡ find old.now (numbered_of self.now) }
         ensures documents { IfOk result (λ t. documents_of t ≡ documents_of self.now) }
         ensures numbered { IfOk result (λ t. numbered_of t
             ≡ put new.now (numbered index.now).1 (without old.now (numbered_of self.now))) }
         ensures next { IfOk result (λ t. next_of t ≡ next_of self.now) }
+        ensures follows { IfOk result (λ t. Follows self.now t) }
     {
         let copies = copies_of(self.alloc, self.all_indexes())?;
         let rest = without_index(copies, old);
@@ -91,7 +97,7 @@ impl Table {
 
     /// The table where the index of a name, if there is one, has another name and keeps its tree
     /// with its number. An index that has the other name gives way.
-    #[tactic(auto, using(crate::proofs::Listed::renamed_unnumbered))]
+    #[tactic(auto, using(crate::proofs::Listed::renamed_unnumbered, crate::proofs::Given::same_follows))]
     pub fn with_renamed(&self, old: &str, new: &Name) -> Result<Table, Memory>
         ensures documents { IfOk result (λ t. documents_of t ≡ documents_of self.now) }
         ensures indexes { IfOk result (λ t. indexes_of t ≡ renamed old.now new.now
@@ -99,6 +105,7 @@ impl Table {
         ensures numbered { IfOk result (λ t. numbered_of t ≡ renamed old.now new.now
             (find old.now (numbered_of self.now)) (numbered_of self.now)) }
         ensures next { IfOk result (λ t. next_of t ≡ next_of self.now) }
+        ensures follows { IfOk result (λ t. Follows self.now t) }
     {
         match self.filed(old) {
             None => self.share(),

@@ -4,6 +4,7 @@ ghost use Rattle.reql_datum.specs.View.{plain};
 ghost use Rattle.reql_write_law.specs.Treated.{changed, changed_by};
 ghost use Rattle.reql_table.specs.Edits.{key_at, seen_if, told, turned};
 ghost use Rattle.reql_table.specs.Seen.{documents_of};
+ghost use Rattle.reql_table.specs.Trees.{Follows};
 
 use crate::indexes::held;
 use crate::refile::{Turn, all_refiled};
@@ -79,10 +80,12 @@ impl Table {
 
     /// The table after changes, to be installed: each document put, or none left, where its change
     /// says, and each index as the new documents have it. This table stays as it is.
+    #[tactic(auto, using(crate::proofs::Given::same_follows))]
     pub fn prepare(&self, changes: &[Change]) -> Result<Prepared, Memory>
         ensures documents { IfOk result (λ p. documents_of p
             ≡ changed_by (documents_of self.now) (map told changes.now)) }
         ensures indexes { IfOk result (λ p. p.1 ≡ self.now.1) }
+        ensures follows { IfOk result (λ p. Follows self.now p) }
     {
         let mut table = self.share()?;
         for change in changes {

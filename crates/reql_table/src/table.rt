@@ -6,7 +6,7 @@ ghost use Rattle.reql_memory.specs.Sorted.{AreRisingBy};
 ghost use Rattle.reql_datum.specs.Members.{AreRising, find};
 ghost use Rattle.reql_datum.specs.Order.{order};
 ghost use Rattle.reql_term.specs.Views.{Document, index_of};
-ghost use Rattle.reql_table.specs.Seen.{documents_of, indexes_of, numbered_of, next_of, unnumbered, numbered, numbered_in, IsFiled, Finds};
+ghost use Rattle.reql_table.specs.Seen.{documents_of, indexes_of, numbered_of, next_of, unnumbered, numbered, numbered_in, GivesNumbers, IsFiled, Finds};
 
 use crate::filed::FiledIndex;
 use reql_datum::Memory;
@@ -40,7 +40,7 @@ impl Model for Table {
 
     ghost view = { λ t. (t.documents, (map numbered (held_items t.indexes), t.next)) };
 
-    ghost invariant = { λ t. Keeps t.documents (held_items t.indexes) };
+    ghost invariant = { λ t. Keeps t.documents (held_items t.indexes) t.next };
 }
 
 // The index of a name among indexes.
@@ -63,7 +63,7 @@ fn find_in<'a>(indexes: &'a [FiledIndex], name: &str) -> Option<&'a FiledIndex>
 impl Table {
     /// A table of nothing. The first index gets the tree of number 1; the documents lie in that of
     /// number 0.
-    #[tactic(auto, using(crate::proofs::Named::keeps_nothing))]
+    #[tactic(auto, using(crate::proofs::Owned::keeps_nothing))]
     pub fn new(alloc: Global) -> Table
         ensures documents { documents_of result ≡ [] }
         ensures indexes { indexes_of result ≡ [] }
@@ -114,6 +114,7 @@ impl Table {
         ensures rising { AreRising (indexes_of self.now) }
         ensures names { AreRising (map numbered result.now) }
         ensures filed { AllByRecursion (IsFiled (documents_of self.now)) result.now }
+        ensures numbers { GivesNumbers self.now }
     {
         shown(&self.indexes)
     }

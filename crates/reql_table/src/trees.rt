@@ -8,8 +8,8 @@ ghost use Rattle.reql_ptree.specs.Next.{next_of, prev_of};
 ghost use Rattle.reql_ptree.specs.Seen.{pair_seen};
 ghost use Rattle.reql_ptree.specs.Tall.{tall};
 ghost use Rattle.reql_term.specs.Views.{Document};
-ghost use Rattle.reql_table.specs.Seen.{documents_of, numbered, IsFiled};
-ghost use Rattle.reql_table.specs.Trees.{index_tree, pairs_at, tree_pairs, number_of, has_tree};
+ghost use Rattle.reql_table.specs.Seen.{documents_of, numbered, GivesNumbers, IsFiled};
+ghost use Rattle.reql_table.specs.Trees.{HasOwnTrees, index_tree, pairs_at, tree_pairs, number_of, has_tree};
 
 use crate::filed::FiledIndex;
 use crate::table::Table;
@@ -57,11 +57,15 @@ impl Table {
     }
 
     /// Whether a tree is there: that of the primary order is, and that of each index by its number.
+    #[tactic(auto, using(crate::proofs::Owned::own_trees))]
     pub fn has_tree(&self, tree: u128) -> bool
         ensures there { result ≡ has_tree self.now tree }
         ensures rising { AreRisingBy order (documents_of self.now) }
+        ensures own { HasOwnTrees self.now }
+        ensures numbers { GivesNumbers self.now }
     {
         let _tree = self.tree();
+        let _indexes = self.all_indexes();
         self.tree_at(tree).is_some()
     }
 

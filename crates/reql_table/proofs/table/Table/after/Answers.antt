@@ -1,9 +1,9 @@
-use Rattle.std.proofs.Common.{ap, sym, ◌∙◌}
+use Rattle.std.proofs.Common.{ap, sym, ◌∙◌, rules}
 use Rattle.reql_datum.specs.Plain.{Plain}
 use Rattle.reql_datum.specs.View.{plain}
 use Rattle.reql_ptree.specs.Pairs.{find}
 use Rattle.reql_table.specs.Edits.{turned}
-use Rattle.reql_table.specs.Seen.{documents_of}
+use Rattle.reql_table.specs.Seen.{documents_of, next_of, numbered_of}
 use Rattle.reql_table.proofs.Listed.{keeps_turned}
 use Rattle.reql_table.proofs.table.Table.after.Goals as goal
 
@@ -16,3 +16,4 @@ invariant_of-result c =
     in
     keeps_turned t docs _ c.all_indexes.result.now c.in_ok-indexes.indexes.items _ (c.documents.view_is ∙ c.in_ok-documents.ensures ∙ ap (turned t) c.tree-2.ensures.documents) c.in_ok-held.ensures
     c.in_ok-indexes.ensures.numbered c.tree.ensures.rising c.all_indexes.ensures.names (c.in_ok-indexes.ensures.filed docs c.tree.ensures.rising there c.all_indexes.ensures.filed)
+    (numbered_of c.args.self.now) (next_of c.args.self.now) _ c.all_indexes.ensures.indexes (search rules) c.all_indexes.ensures.numbers
