@@ -1,5 +1,5 @@
 // A map from names to values, shared, and copied where it is written to.
-ghost use Rattle.std.specs.Prelude.{◌≡◌, [], map, is_ok, IfOk, option_map, if◌then◌else◌};
+ghost use Rattle.std.specs.Prelude.{◌≡◌, ◌<◌, ◌+◌, ◌^◌, [], ◌∷◌, map, drop, is_ok, IfOk, MatchOption, OnSome, option_map, slice_get, if◌then◌else◌};
 ghost use Rattle.std.specs.Map.{keys_of};
 ghost use Rattle.reql_datum.specs.Members.{find, put, without, AreRising};
 ghost use Rattle.reql_datum.specs.Plain.{text};
@@ -142,6 +142,26 @@ impl<V: Drop> NameMap<V> {
         ensures { option_map (λ v. v.now) result ≡ find name.now self.now }
     {
         sorted_map::get(self.rows(), &name)
+    }
+
+    /// The name at a place, by rising name, with what stands at it.
+    pub fn at(&self, place: usize) -> Option<(&Name, &V)>
+        ensures found { option_map (λ m. (m.0.now, m.1.now)) result ≡ slice_get self.now place }
+        ensures rest { MatchOption result (drop place self.now ≡ [])
+            (λ m. drop place self.now ≡ (m.0.now, m.1.now) ∷ drop (place + 1) self.now) }
+        ensures place_fits { OnSome result (place < 2 ^ 63) }
+    {
+        self.seek(place)
+    }
+
+    fn seek(&self, place: usize) -> Option<(&Name, &V)>
+        ensures found { option_map (λ m. (m.0.now, m.1.now)) result ≡ slice_get self.now place }
+        ensures place_fits { OnSome result (place < 2 ^ 63) }
+    {
+        match self.rows().get(place) {
+            Some(row) => Some((&row.name, &row.value)),
+            None => None,
+        }
     }
 
     /// The names as texts, by rising name.

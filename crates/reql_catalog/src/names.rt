@@ -1,5 +1,5 @@
 // What a look at the catalogue gives.
-ghost use Rattle.std.specs.Prelude.{◌≡◌, IfOk, map, option_map, is_some, length};
+ghost use Rattle.std.specs.Prelude.{◌≡◌, ◌<◌, ◌+◌, ◌^◌, [], ◌∷◌, IfOk, MatchOption, OnSome, drop, map, option_map, is_some, length};
 ghost use Rattle.std.specs.Map.{keys_of};
 ghost use Rattle.reql_datum.specs.Members.{find};
 ghost use Rattle.reql_datum.specs.Plain.{text};
@@ -105,6 +105,15 @@ impl Names {
             None => None,
             Some(database) => Some(database.number),
         }
+    }
+
+    /// The database at a place, by rising name.
+    pub fn db_at(&self, place: usize) -> Option<(&Name, &Database)>
+        ensures rest { MatchOption result (drop place self.now.dbs ≡ [])
+            (λ d. drop place self.now.dbs ≡ (d.0.now, d.1.now) ∷ drop (place + 1) self.now.dbs) }
+        ensures place_fits { OnSome result (place < 2 ^ 63) }
+    {
+        self.dbs.at(place)
     }
 
     /// The names of the databases, by rising name.
