@@ -1,0 +1,15 @@
+-- What stands from a place of a list on.
+use Rattle.std.proofs.Common.{◌≡◌, ℕ, ◌-◌, ◌≤◌, List, [], map, take, drop, length, sym, ap, ◌∙◌, arith}
+use Rattle.std.proofs.lemmas.List.{take_all, drop_all, drop-map, length-drop}
+use Rattle.reql_datum.specs.Plain.{Plain}
+use Rattle.reql_datum.specs.View.{plain}
+use Rattle.reql_datum.specs.declared.datum.Datum.{Datum}
+
+pub all_taken : {X : Type 0} (xs : List X) (from : ℕ) → take (length xs - from) (drop from xs) ≡ drop from xs
+all_taken xs from = take_all (length xs - from) (drop from xs) (omega (arith, length-drop from xs))
+
+pub past : {X : Type 0} (xs : List X) (from : ℕ) → length xs ≤ from → take (length xs - length xs) (drop (length xs) xs) ≡ drop from xs
+past xs from le = all_taken xs (length xs) ∙ drop_all (length xs) xs (omega arith) ∙ sym (drop_all from xs le)
+
+pub shown_rest : (seen rest : List Datum) (vs : List Plain) (from : ℕ) → map plain seen ≡ vs → rest ≡ drop from seen → map plain rest ≡ drop from vs
+shown_rest seen rest vs from is left = ap (map plain) left ∙ sym (drop-map plain from seen) ∙ ap (drop from) is
