@@ -1,5 +1,5 @@
 // What is open.
-ghost use Rattle.std.specs.Prelude.{◌≡◌, drop, map};
+ghost use Rattle.std.specs.Prelude.{◌≡◌, take, drop, map};
 ghost use Rattle.reql_datum.specs.View.{plain};
 ghost use Rattle.reql_shelf.specs.Kept.{cursor_kept};
 
@@ -43,7 +43,27 @@ fn rest_of<T>(items: &[T], from: usize) -> &[T]
     &items[from..]
 }
 
+// So many that stand first.
+#[tactic(auto, using(crate::proofs::Rests::whole))]
+fn first_of<T>(items: &[T], count: usize) -> &[T]
+    ensures { result.now ≡ take count items.now }
+{
+    if count >= items.len() {
+        return items;
+    }
+    &items[..count]
+}
+
 impl Cursor {
+    /// The documents of its next batch.
+    #[tactic(auto, using(crate::proofs::Rests::shown_first))]
+    pub fn first(&self) -> &[Datum]
+        ensures { map plain result.now
+            ≡ take self.now.batch (cursor_kept self.now).rest }
+    {
+        first_of(self.left(), self.batch as usize)
+    }
+
     /// The documents that are left.
     #[tactic(auto, using(crate::proofs::Rests::shown_rest))]
     pub fn left(&self) -> &[Datum]
@@ -54,6 +74,14 @@ impl Cursor {
 }
 
 impl Open {
+    /// The items of its next batch.
+    pub fn first(&self) -> &[Shown]
+        ensures { result.now
+            ≡ take self.now.batch (drop self.now.from self.now.items.items) }
+    {
+        first_of(self.left(), self.batch as usize)
+    }
+
     /// The items that are left.
     pub fn left(&self) -> &[Shown]
         ensures { result.now ≡ drop self.now.from self.now.items.items }
