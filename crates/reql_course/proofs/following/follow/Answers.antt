@@ -1,0 +1,28 @@
+use Rattle.reql_course.specs.Walking.{tools}
+use Rattle.reql_course.specs.declared.following.Reached.TheVariants as reached
+use Rattle.reql_course.proofs.Leading.{follow_begun, follows_from, follow_on, follow_ends, follow_denied, follow_given_up, follow_unbegun}
+use Rattle.reql_course.proofs.following.follow.Goals as goal
+
+pub returns-in_default-clause-follows : goal.returns-in_default-clause-follows
+returns-in_default-clause-follows g c = follow_unbegun (g.P.Planning.talk c.args.planner.now) g.C.Engine.some_state (tools c.args.desk.now (g.T.Clock.told c.args.clock.now) (g.D.Dice.told c.args.dice.now)) (g.P.Planner.state c.args.course.now) (g.P.Planner.state c.first.new.course) c.args.met.now c.first.ensures.same
+
+pub loop-init : goal.loop-init
+loop-init g c = (c.requires.of_this_hall, follow_begun (g.P.Planning.talk c.args.planner.now) g.C.Engine.some_state (tools c.args.desk.now (g.T.Clock.told c.args.clock.now) (g.D.Dice.told c.args.dice.now)) (g.P.Planner.state c.args.course.now) (g.P.Planner.state c.first.new.course) c.args.met.now c.in-Ok.next c.first.ensures.same c.in-Ok.ensures.goes c.requires.first c.requires.points)
+
+pub loop-preserved : goal.loop-preserved
+loop-preserved g c = (c.step.ensures.of_this_hall, follow_on (g.P.Planning.talk c.args.planner.now) g.C.Engine.some_state (tools c.args.desk.now (g.T.Clock.told c.args.clock.now) (g.D.Dice.told c.args.dice.now)) (tools c.loop.desk (g.T.Clock.told c.loop.clock) (g.D.Dice.told c.loop.dice)) (tools c.step.new.desk (g.T.Clock.told c.step.new.clock) (g.D.Dice.told c.step.new.dice)) (g.P.Planner.state c.first.new.course) (g.P.Planner.state c.loop.course) (g.P.Planner.state c.step.new.course) c.args.met.now c.loop.met c.step.new.met c.loop.next c.in-On.later c.loop.invariant.1 c.in-On.ensures.steps)
+
+pub returns-in-Ends-clause-follows : goal.returns-in-Ends-clause-follows
+returns-in-Ends-clause-follows g c =
+    follows_from (g.P.Planning.talk c.args.planner.now) g.C.Engine.some_state (tools c.args.desk.now (g.T.Clock.told c.args.clock.now) (g.D.Dice.told c.args.dice.now)) (tools c.step.new.desk (g.T.Clock.told c.step.new.clock) (g.D.Dice.told c.step.new.dice)) (g.P.Planner.state c.args.course.now) (g.P.Planner.state c.first.new.course) (g.P.Planner.state c.step.new.course) c.args.met.now c.step.new.met (reached.Ends c.in-Ends.answered) c.first.ensures.same
+    (follow_ends (g.P.Planning.talk c.args.planner.now) g.C.Engine.some_state (tools c.args.desk.now (g.T.Clock.told c.args.clock.now) (g.D.Dice.told c.args.dice.now)) (tools c.loop.desk (g.T.Clock.told c.loop.clock) (g.D.Dice.told c.loop.dice)) (tools c.step.new.desk (g.T.Clock.told c.step.new.clock) (g.D.Dice.told c.step.new.dice)) (g.P.Planner.state c.first.new.course) (g.P.Planner.state c.loop.course) (g.P.Planner.state c.step.new.course) c.args.met.now c.loop.met c.step.new.met c.loop.next c.in-Ends.answered c.loop.invariant.1 c.in-Ends.ensures.steps)
+
+pub returns-in-Denied-clause-follows : goal.returns-in-Denied-clause-follows
+returns-in-Denied-clause-follows g c =
+    follows_from (g.P.Planning.talk c.args.planner.now) g.C.Engine.some_state (tools c.args.desk.now (g.T.Clock.told c.args.clock.now) (g.D.Dice.told c.args.dice.now)) (tools c.step.new.desk (g.T.Clock.told c.step.new.clock) (g.D.Dice.told c.step.new.dice)) (g.P.Planner.state c.args.course.now) (g.P.Planner.state c.first.new.course) (g.P.Planner.state c.step.new.course) c.args.met.now c.step.new.met reached.Denied c.first.ensures.same
+    (follow_denied (g.P.Planning.talk c.args.planner.now) g.C.Engine.some_state (tools c.args.desk.now (g.T.Clock.told c.args.clock.now) (g.D.Dice.told c.args.dice.now)) (tools c.loop.desk (g.T.Clock.told c.loop.clock) (g.D.Dice.told c.loop.dice)) (tools c.step.new.desk (g.T.Clock.told c.step.new.clock) (g.D.Dice.told c.step.new.dice)) (g.P.Planner.state c.first.new.course) (g.P.Planner.state c.loop.course) (g.P.Planner.state c.step.new.course) c.args.met.now c.loop.met c.step.new.met c.loop.next c.loop.invariant.1 c.in-Denied.ensures.steps)
+
+pub returns-clause-follows : goal.returns-clause-follows
+returns-clause-follows g c =
+    follows_from (g.P.Planning.talk c.args.planner.now) g.C.Engine.some_state (tools c.args.desk.now (g.T.Clock.told c.args.clock.now) (g.D.Dice.told c.args.dice.now)) (tools c.loop.desk (g.T.Clock.told c.loop.clock) (g.D.Dice.told c.loop.dice)) (g.P.Planner.state c.args.course.now) (g.P.Planner.state c.first.new.course) (g.P.Planner.state c.loop.course) c.args.met.now c.loop.met reached.Denied c.first.ensures.same
+    (follow_given_up (g.P.Planning.talk c.args.planner.now) g.C.Engine.some_state (tools c.args.desk.now (g.T.Clock.told c.args.clock.now) (g.D.Dice.told c.args.dice.now)) (tools c.loop.desk (g.T.Clock.told c.loop.clock) (g.D.Dice.told c.loop.dice)) (g.P.Planner.state c.first.new.course) (g.P.Planner.state c.loop.course) c.args.met.now c.loop.met c.loop.next c.loop.invariant.1)

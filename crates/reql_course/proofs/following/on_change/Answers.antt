@@ -1,0 +1,10 @@
+use Rattle.reql_course.proofs.Leading.{change_step, change_refused}
+use Rattle.reql_course.proofs.following.on_change.Goals as goal
+
+pub returns-in-Ok-clause-steps : goal.returns-in-Ok-clause-steps
+returns-in-Ok-clause-steps g c = λ clock dice.
+    change_step (g.P.Planning.talk c.args.planner.now) g.C.Engine.some_state _ _ clock dice _ _ c.args.met.now c.change_names.new.met c.in-Ok.ensures.changed.0.0 c.args.cmd c.in-Ok.reply c.next.result c.leads_to.result c.requires.asks c.in-Ok.ensures.changed.0.1 c.in-Ok.ensures.changed.1 c.in-Ok.ensures.changed.2 c.next.ensures.heard c.next.ensures.goes c.leads_to.ensures
+
+pub returns-in-Err-clause-steps : goal.returns-in-Err-clause-steps
+returns-in-Err-clause-steps g c = λ clock dice.
+    change_refused (g.P.Planning.talk c.args.planner.now) g.C.Engine.some_state _ _ clock dice _ c.args.met.now c.change_names.new.met c.args.cmd c.requires.asks c.in-Err.ensures.changed.0 c.in-Err.ensures.changed.1 c.in-Err.ensures.changed.2

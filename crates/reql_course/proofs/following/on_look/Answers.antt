@@ -1,0 +1,10 @@
+use Rattle.reql_course.proofs.Leading.{seen_step, look_refused}
+use Rattle.reql_course.proofs.following.on_look.Goals as goal
+
+pub returns-in-Ok-clause-steps : goal.returns-in-Ok-clause-steps
+returns-in-Ok-clause-steps g c = λ clock dice.
+    seen_step (g.P.Planning.talk c.args.planner.now) g.C.Engine.some_state _ _ g.C.Engine.heard g.met.C.TableEngine.shows _ _ clock dice _ _ c.args.met.now c.look_slot.new.met c.args.slot c.in-Ok.look c.next.result c.leads_to.result c.requires.asks c.in-Ok.ensures.looked c.next.ensures.heard c.next.ensures.goes c.leads_to.ensures
+
+pub returns-in-Err-clause-steps : goal.returns-in-Err-clause-steps
+returns-in-Err-clause-steps g c = λ clock dice.
+    look_refused (g.P.Planning.talk c.args.planner.now) g.C.Engine.some_state _ _ clock dice _ c.args.met.now c.look_slot.new.met c.args.slot c.requires.asks c.in-Err.ensures.looked

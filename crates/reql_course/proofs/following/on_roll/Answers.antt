@@ -1,0 +1,6 @@
+use Rattle.reql_course.proofs.Leading.{dice_step}
+use Rattle.reql_course.proofs.following.on_roll.Goals as goal
+
+pub returns : goal.returns
+returns g c = λ some desk clock.
+    dice_step (g.P.Planning.talk c.args.planner.now) some desk clock _ _ _ _ c.args.met.now c.roll-bytes.result c.next.result c.leads_to.result c.requires.asks c.roll-bytes.ensures c.next.ensures.heard c.next.ensures.goes c.leads_to.ensures

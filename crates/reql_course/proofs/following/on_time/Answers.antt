@@ -1,0 +1,6 @@
+use Rattle.reql_course.proofs.Leading.{clock_step}
+use Rattle.reql_course.proofs.following.on_time.Goals as goal
+
+pub returns : goal.returns
+returns g c = λ some desk dice.
+    clock_step (g.P.Planning.talk c.args.planner.now) some desk _ _ dice _ _ c.args.met.now c.tell-moment.result c.next.result c.leads_to.result c.requires.asks c.tell-moment.ensures c.next.ensures.heard c.next.ensures.goes c.leads_to.ensures
