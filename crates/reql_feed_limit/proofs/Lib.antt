@@ -19,4 +19,3 @@ pub mod Numbers
 pub mod Places
 pub mod Answered
 pub mod Preparing
-pub mod Kept

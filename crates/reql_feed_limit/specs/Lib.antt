@@ -1,6 +1,5 @@
 pub mod Order
 pub mod Feed
-pub mod Asked
 pub mod Seen
 pub mod Bounded
 pub mod Selection

@@ -2,7 +2,6 @@
 //! tree a change.
 #![tactic(auto)]
 
-mod asked;
 mod bounds;
 mod deciding;
 mod element;
@@ -17,4 +16,4 @@ mod search;
 
 pub use element::{Element, LimitStep, Placed};
 pub use feed::LimitFeed;
-pub use reql_feed_read::{Order, Part};
+pub use order::{Order, Part};

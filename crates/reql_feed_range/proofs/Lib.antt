@@ -1,4 +1,8 @@
 pub mod OneDocument
+pub mod Slots
+pub mod Firsts
+pub mod Gets
+pub mod Requests
 pub mod Changes
 pub mod Documents
 pub mod Pairing

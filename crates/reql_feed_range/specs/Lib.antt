@@ -1,2 +1,4 @@
+pub mod Scopes
+pub mod Shapes
 pub mod Feed
 pub mod Printed

@@ -5,15 +5,16 @@ ghost use Rattle.reql_datum.specs.View.{plain};
 ghost use Rattle.reql_memory.specs.Sorted.{AreRisingBy, find_by};
 ghost use Rattle.reql_term.specs.Views.{Document};
 ghost use Rattle.reql_feed_law.specs.Feeds.{opening_items, queued};
-ghost use Rattle.reql_feed_read.specs.Follows.{Reads, held_of};
+ghost use Rattle.reql_feed_range.specs.Feed.{Reads, held_of};
 ghost use Rattle.reql_law.specs.Table.{held, feed_of, is_limit};
 ghost use Rattle.reql_table.specs.Seen.{documents_of, indexes_of};
 
+use crate::follows::{Follows, read};
+use crate::index::kept_index;
 use crate::opening::{open_key, open_nothing, open_shape};
 use crate::printed::Printer;
 use crate::telling::{point_change, range_change};
 use reql_datum::{Items, Memory, Name};
-use reql_feed_read::{Follows, kept_index, read};
 use reql_law::FeedSpec;
 use reql_table::{Change, IndexDef, Table};
 use std::alloc::Global;
@@ -34,8 +35,7 @@ impl Model for RangeFeed {
     ghost use Rattle.reql_datum.specs.Code.{plain_code, list_code, pairs_code};
     ghost use Rattle.reql_term.specs.FormCode.{form_code};
     ghost use Rattle.reql_law.specs.Table.{Held};
-    ghost use Rattle.reql_feed_range.specs.Feed.{Keeps};
-    ghost use Rattle.reql_feed_read.specs.Follows.{held_of};
+    ghost use Rattle.reql_feed_range.specs.Feed.{Keeps, held_of};
 
     ghost Value = { Held };
 
@@ -77,8 +77,7 @@ impl RangeFeed {
         follows: Follows,
         printer: Printer,
     ) -> RangeFeed
-        requires reads { Reads follows spec index }
-        requires kind { is_limit spec.kind ≡ false }
+        requires reads { Reads follows (held_of spec index) }
         requires offsets { printer.offsets ≡ spec.offsets }
         requires types { printer.types ≡ spec.types }
         ensures { result ≡ held_of spec index }
@@ -126,7 +125,6 @@ impl RangeFeed {
         match &self.follows {
             Follows::Key(key) => open_key(alloc, &self.printer, key, table),
             Follows::Shape(shape) => open_shape(alloc, &self.printer, shape, table),
-            Follows::First(_) => unreachable!(),
             Follows::Nothing => open_nothing(alloc, &self.printer, self.spec.kind),
         }
     }
@@ -145,7 +143,6 @@ impl RangeFeed {
             Follows::Shape(shape) => {
                 range_change(alloc, &self.printer, self.spec.squash, shape, change)
             }
-            Follows::First(_) => unreachable!(),
             Follows::Nothing => Ok(Items::new(alloc)),
         }
     }

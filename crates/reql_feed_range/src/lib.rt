@@ -4,8 +4,14 @@
 
 mod alone;
 mod feed;
+mod follows;
+mod free;
+mod index;
 mod opening;
+mod point;
 mod printed;
+mod range;
+mod shape;
 mod telling;
 
 pub use feed::RangeFeed;

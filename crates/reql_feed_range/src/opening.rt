@@ -5,16 +5,15 @@ ghost use Rattle.reql_datum.specs.View.{plain};
 ghost use Rattle.reql_feed_law.specs.Feeds.{one_key, all_given, nothing, opened_from, opening_items};
 ghost use Rattle.reql_feed_law.specs.Shown.{opening, or_null};
 ghost use Rattle.reql_feed_law.specs.Value.{contribution, range_value};
-ghost use Rattle.reql_feed_range.specs.Feed.{GivesAll};
-ghost use Rattle.reql_feed_read.specs.Follows.{shape_of};
+ghost use Rattle.reql_feed_range.specs.Feed.{GivesAll, shape_of};
 ghost use Rattle.reql_feed_range.specs.Printed.{shows};
 ghost use Rattle.reql_table.specs.Seen.{documents_of};
 ghost use Rattle.reql_term.specs.Views.{Document};
 
 use crate::printed::Printer;
+use crate::shape::RangeShape;
 use reql_bag::in_order;
 use reql_datum::{Datum, Items, Memory};
-use reql_feed_read::RangeShape;
 use reql_law::FeedKind;
 use reql_table::{Entries, Range, Table, TableView};
 use reql_term::Bound;

@@ -5,13 +5,13 @@ ghost use Rattle.reql_rules.specs.Types.{same};
 ghost use Rattle.reql_feed_law.specs.Items.{point_items, range_items, present};
 ghost use Rattle.reql_feed_law.specs.Shown.{shown, or_null as or_null_of};
 ghost use Rattle.reql_feed_law.specs.Value.{contribution_at};
-ghost use Rattle.reql_feed_read.specs.Follows.{shape_of};
+ghost use Rattle.reql_feed_range.specs.Feed.{shape_of};
 ghost use Rattle.reql_feed_range.specs.Printed.{shows, behind};
 
 use crate::printed::Printer;
+use crate::shape::RangeShape;
 use reql_bag::difference;
 use reql_datum::{Datum, Items, Memory, compare};
-use reql_feed_read::RangeShape;
 use reql_table::Change;
 use std::alloc::Global;
 
