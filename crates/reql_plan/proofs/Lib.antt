@@ -1,0 +1,11 @@
+mod Chosen
+mod Closed
+mod Elements
+mod Firsts
+mod Held
+mod Keys
+mod Moments
+mod Moving
+mod Saying
+mod Showing
+mod Turns

@@ -1,0 +1,3 @@
+pub mod Chosen
+pub mod Rest
+pub mod Turn
