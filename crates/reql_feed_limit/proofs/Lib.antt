@@ -19,3 +19,4 @@ pub mod Numbers
 pub mod Places
 pub mod Answered
 pub mod Preparing
+pub mod Kept

@@ -14,7 +14,7 @@ use Rattle.reql_write_law.specs.Treated.{Changed}
 use Rattle.reql_feed_limit.specs.Bounds.{Bounds, in_bounds}
 use Rattle.reql_feed_limit.specs.Items.{Item, Placed}
 use Rattle.reql_feed_limit.specs.Order.{Order, first_in, pairs_in, entries_in, bounds_in, spot_of}
-use Rattle.reql_feed_limit.specs.declared.order.Order as the
+use Rattle.reql_feed_read.specs.declared.order.Order as the
 use Rattle.reql_feed_limit.specs.Selection.{Element, Limit}
 use Rattle.reql_feed_limit.specs.Stands.{IsWithin}
 

@@ -1,5 +1,6 @@
 pub mod Order
 pub mod Feed
+pub mod Asked
 pub mod Seen
 pub mod Bounded
 pub mod Selection

@@ -27,12 +27,13 @@ use crate::deciding::{arrive, exchange, leave, nothing};
 use crate::element::{Element, LimitStep};
 use crate::held::{copies, let_go, put_in, take_out};
 use crate::nearest::nearest;
-use crate::order::Order;
+use crate::order::bounds;
 use crate::pairs::{element_between, pair_between};
 use crate::printing::opening_items;
 use crate::reading::{first_elements, within};
 use crate::search::{is_after_all, place_left};
 use reql_datum::{Items, Memory};
+use reql_feed_read::Order;
 use reql_ptree::Steps;
 use reql_table::{Change, IndexDef, Table};
 use std::alloc::Global;
@@ -107,7 +108,7 @@ impl LimitFeed {
         ensures there { IfOk result (λ f. has_tree table.now f.tree ≡ true) }
     {
         let tree = tree_of(table, &order);
-        let bounds = order.bounds(alloc)?;
+        let bounds = bounds(alloc, &order)?;
         let held = first_elements(alloc, &order, &bounds, table, tree, steps)?;
         Ok(LimitFeed {
             order,

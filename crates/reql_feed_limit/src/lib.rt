@@ -2,6 +2,7 @@
 //! tree a change.
 #![tactic(auto)]
 
+mod asked;
 mod bounds;
 mod deciding;
 mod element;
@@ -16,4 +17,4 @@ mod search;
 
 pub use element::{Element, LimitStep, Placed};
 pub use feed::LimitFeed;
-pub use order::{Order, Part};
+pub use reql_feed_read::{Order, Part};

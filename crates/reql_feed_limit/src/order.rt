@@ -1,5 +1,5 @@
-// What a limit feed follows.
-ghost use Rattle.std.specs.Prelude.{◌≡◌, false, IfOk};
+// The bounds of an order, as two pairs.
+ghost use Rattle.std.specs.Prelude.{◌≡◌, false, is_some, IfOk};
 ghost use Rattle.reql_datum.specs.Plain.{low, high};
 ghost use Rattle.reql_datum.specs.View.{plain};
 ghost use Rattle.reql_table.specs.Keys.{before as before_of, after as after_of, low_end as low_end_of, high_end as high_end_of};
@@ -9,87 +9,14 @@ ghost use Rattle.reql_feed_limit.specs.Seen.{order_of, part_of};
 
 use crate::bounds::Bounds;
 use reql_datum::{Datum, Items, Memory};
-use reql_table::IndexDef;
+use reql_feed_read::{Order, Part};
 use std::alloc::Global;
 
-/// All entries of an order, or those between two values of it.
-#[derive(Drop)]
-pub enum Part {
-    Whole,
-    Between {
-        bottom: Datum,
-        /// Whether the bottom itself is left out.
-        bottom_open: bool,
-        top: Datum,
-        /// Whether the top itself is left out.
-        top_open: bool,
-    },
-}
-
-/// The first so many documents in the order of an index that is no multi index, or of primary keys.
-#[derive(Drop)]
-pub struct Order {
-    /// The index by its name, with its definition; none is the primary order.
-    pub index: Option<IndexDef>,
-    pub part: Part,
-    /// Whether it goes from the greatest to the least.
-    pub down: bool,
-    /// How many documents at most.
-    pub most: u32,
-}
-
-impl Part {
-    fn copy(&self) -> Result<Part, Memory>
-        ensures { IfOk result (λ p. part_of p ≡ part_of self.now) }
-    {
-        match self {
-            Part::Whole => Ok(Part::Whole),
-            Part::Between {
-                bottom,
-                bottom_open,
-                top,
-                top_open,
-            } => Ok(Part::Between {
-                bottom: bottom.copy()?,
-                bottom_open: *bottom_open,
-                top: top.copy()?,
-                top_open: *top_open,
-            }),
-        }
-    }
-}
-
-fn index_copy(index: &Option<IndexDef>) -> Result<Option<IndexDef>, Memory>
-    ensures { IfOk result (λ i. i ≡ index.now) }
+/// The pairs between which the part of an order lies.
+pub(crate) fn bounds(alloc: Global, order: &Order) -> Result<Bounds, Memory>
+    ensures { IfOk result (λ b. bounds_of b ≡ bounds_in (order_of order.now)) }
 {
-    match index {
-        None => Ok(None),
-        Some(def) => {
-            let copy = def.copy()?;
-            Ok(Some(copy))
-        }
-    }
-}
-
-impl Order {
-    /// An equal order that shares what it holds.
-    pub(crate) fn copy(&self) -> Result<Order, Memory>
-        ensures { IfOk result (λ o. order_of o ≡ order_of self.now) }
-    {
-        Ok(Order {
-            index: index_copy(&self.index)?,
-            part: self.part.copy()?,
-            down: self.down,
-            most: self.most,
-        })
-    }
-
-    /// The pairs between which its part lies.
-    pub(crate) fn bounds(&self, alloc: Global) -> Result<Bounds, Memory>
-        ensures { IfOk result (λ b. bounds_of b ≡ bounds_in (order_of self.now)) }
-    {
-        bounds_at(alloc, self.index.is_some(), &self.part)
-    }
+    bounds_at(alloc, order.index.is_some(), &order.part)
 }
 
 fn bounds_at(alloc: Global, filed: bool, part: &Part) -> Result<Bounds, Memory>

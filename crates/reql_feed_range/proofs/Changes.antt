@@ -20,9 +20,9 @@ use Rattle.reql_feed_law.proofs.Contributions.{change_of_part}
 use Rattle.reql_feed_law.proofs.Keeping.{shape_is}
 use Rattle.reql_feed_law.proofs.Points.{point_after}
 use Rattle.reql_feed_law.proofs.Watched.{follow_shapes}
-use Rattle.reql_feed_range.specs.Feed.{shape_of}
+use Rattle.reql_feed_read.specs.Follows.{shape_of}
 use Rattle.reql_feed_range.specs.Printed.{behind}
-use Rattle.reql_feed_range.specs.declared.shape.RangeShape.{RangeShape}
+use Rattle.reql_feed_read.specs.declared.shape.RangeShape.{RangeShape}
 
 -- what is queued by what is watched
 abbrev queued_by : Watch → Bool → Shows → List Document → Change → List Plain

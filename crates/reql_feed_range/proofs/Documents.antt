@@ -8,8 +8,8 @@ use Rattle.reql_feed_law.specs.Feeds.{opened_from}
 use Rattle.reql_feed_law.specs.Shown.{Shows, opening}
 use Rattle.reql_feed_law.specs.Value.{Shape, contribution, range_value}
 use Rattle.reql_feed_law.proofs.Contributions.{value_is_union}
-use Rattle.reql_feed_range.specs.Feed.{shape_of}
-use Rattle.reql_feed_range.specs.declared.shape.RangeShape.{RangeShape}
+use Rattle.reql_feed_read.specs.Follows.{shape_of}
+use Rattle.reql_feed_read.specs.declared.shape.RangeShape.{RangeShape}
 use Rattle.reql_feed_range.proofs.Changes.{by_document}
 
 above_low : (k : Plain) → is_above false low k ≡ true

@@ -1,5 +1,5 @@
 -- What is told and opened by what was read is what the feed shows by the definition.
-use Rattle.std.proofs.Common.{◌≡◌, List, [], map, Result, Option, Some, None, ◌&&◌, not, if◌then◌else◌, IfOk, sym, ap, ◌∙◌, subst}
+use Rattle.std.proofs.Common.{◌≡◌, List, [], map, Result, Option, Some, None, ◌&&◌, not, if◌then◌else◌, IfOk, false, sym, ap, ◌∙◌, subst}
 use Rattle.std.proofs.lemmas.Result.{IfOk-weaker}
 use Rattle.reql_datum.specs.Order.{order}
 use Rattle.reql_datum.specs.Plain.{Plain}
@@ -9,38 +9,52 @@ use Rattle.reql_memory.specs.Sorted.{AreRisingBy, find_by}
 use Rattle.reql_rules.specs.Types.{same}
 use Rattle.reql_term.specs.Views.{Document}
 use Rattle.reql_term.specs.declared.view.IndexDef.{IndexDef}
-use Rattle.reql_feed_law.specs.Feeds.{Watch, one_key, all_given, nothing, opening_items, queued}
+use Rattle.reql_feed_law.specs.Feeds.{Watch, one_key, all_given, nothing, kind_of, opening_items, queued}
 use Rattle.reql_feed_law.specs.Items.{point_items, range_items}
 use Rattle.reql_feed_law.specs.Shown.{shown, or_null}
 use Rattle.reql_feed_law.specs.Value.{contribution_at}
-use Rattle.reql_law.specs.Table.{Held, feed_of}
+use Rattle.reql_feed_law.specs.declared.kind.FeedKind.TheVariants as kinds
+use Rattle.reql_law.specs.Table.{Held, feed_of, is_limit}
 use Rattle.reql_law.specs.declared.command.FeedSpec.{FeedSpec}
-use Rattle.reql_feed_range.specs.Feed.{held_of, shape_of, watched, Reads, Keeps}
+use Rattle.reql_feed_range.specs.Feed.{Keeps}
+use Rattle.reql_feed_read.specs.Follows.{held_of, shape_of, watched, IsOrder, Reads}
 use Rattle.reql_feed_range.specs.Printed.{shows, behind}
-use Rattle.reql_feed_range.specs.declared.follows.Follows.{Follows}
-use Rattle.reql_feed_range.specs.declared.follows.Follows.TheVariants as follows
+use Rattle.reql_feed_read.specs.declared.follows.Follows.{Follows}
+use Rattle.reql_feed_read.specs.declared.follows.Follows.TheVariants as follows
 use Rattle.reql_feed_range.specs.declared.printed.Printer.{Printer}
-use Rattle.reql_feed_range.specs.declared.shape.RangeShape.{RangeShape}
+use Rattle.reql_feed_read.specs.declared.order.Order.{Order}
+use Rattle.reql_feed_read.specs.declared.shape.RangeShape.{RangeShape}
 use Rattle.reql_feed_range.proofs.Changes.{point_queued, range_queued, nothing_queued}
+
+-- what is kept is no order
+pub no_order : (spec : FeedSpec) (index : Option IndexDef) (f : Follows) (p : Printer) → Keeps spec index f p → (o : Order) → f ≡ follows.First o → ⊥
+no_order spec index f p keeps o e =
+    let r : IsOrder o index spec.kind (watched (held_of spec index)) = subst (λ x. Reads x spec index) e keeps.reads in
+    let limit : is_limit (kinds.Limit o.most) ≡ false = ap is_limit (sym r.kind) ∙ keeps.kind in
+    cc (limit)
+
+-- what is read is of the kind that was asked for
+kind_read : (f : Follows) (spec : FeedSpec) (index : Option IndexDef) → Reads f spec index → spec.kind ≡ kind_of (watched (held_of spec index))
+kind_read (follows.Key key) spec index r = r.1 ∙ sym (ap kind_of r.0)
+kind_read (follows.Shape s) spec index r = r.1 ∙ sym (ap kind_of r.0)
+kind_read (follows.First o) spec index r = r.kind ∙ sym (ap kind_of r.shows)
+kind_read follows.Nothing spec index r = sym (ap kind_of r)
+
+pub kind_kept : (spec : FeedSpec) (index : Option IndexDef) (f : Follows) (p : Printer) → Keeps spec index f p → (h : Held) → held_of spec index ≡ h → spec.kind ≡ kind_of (feed_of h).watch
+kind_kept spec index f p keeps h is = kind_read f spec index keeps.reads ∙ ap (λ (x : Held). kind_of (feed_of x).watch) is
 
 module _ (spec : FeedSpec) (index : Option IndexDef) (f : Follows) (p : Printer) (keeps : Keeps spec index f p) (h : Held) (is : held_of spec index ≡ h) where
   shows_are : shows p.offsets p.types ≡ (feed_of h).shows
   shows_are = (λ i. shows (keeps.offsets i) (keeps.types i)) ∙ ap (λ x. (feed_of x).shows) is
 
-  reads : Reads f h
-  reads = subst (Reads f) is keeps.reads
-
-  watches : (w : Watch) → (Reads f h → watched h ≡ w) → (feed_of h).watch ≡ w
-  watches w g = g reads
-
   key_watched : (key : Datum) → f ≡ follows.Key key → (feed_of h).watch ≡ one_key (plain key)
-  key_watched key e = subst (λ x. Reads x h) e reads
+  key_watched key e = subst (λ x. (feed_of x).watch ≡ one_key (plain key)) is (subst (λ x. Reads x spec index) e keeps.reads).0
 
   shape_watched : (s : RangeShape) → f ≡ follows.Shape s → (feed_of h).watch ≡ all_given (shape_of s)
-  shape_watched s e = subst (λ x. Reads x h) e reads
+  shape_watched s e = subst (λ x. (feed_of x).watch ≡ all_given (shape_of s)) is (subst (λ x. Reads x spec index) e keeps.reads).0
 
   nothing_watched : f ≡ follows.Nothing → (feed_of h).watch ≡ nothing h.spec.kind
-  nothing_watched e = subst (λ x. Reads x h) e reads
+  nothing_watched e = subst (λ (x : Held). (feed_of x).watch ≡ nothing x.spec.kind) is (subst (λ x. Reads x spec index) e keeps.reads)
 
   module _ {E : Type 0} (result : Result (List Plain) E) (k : Plain) (old new : Option Plain) where
     abbrev IsQueued : List Plain → Type 0

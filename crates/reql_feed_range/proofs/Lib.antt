@@ -1,8 +1,4 @@
 pub mod OneDocument
-pub mod Slots
-pub mod Firsts
-pub mod Gets
-pub mod Requests
 pub mod Changes
 pub mod Documents
 pub mod Pairing

@@ -9,15 +9,13 @@ use Rattle.reql_table.specs.Seen.{Standing, documents_of, indexes_of, entries_at
 use Rattle.reql_value.specs.Index.{plain_view}
 use Rattle.reql_value.specs.World.{World, View}
 use Rattle.reql_write_law.specs.Treated.{Changed, changed_by}
-use Rattle.reql_feed_range.specs.Feed.{coming, rows_given, shape_of, world_with}
-use Rattle.reql_feed_range.specs.declared.shape.RangeShape.{RangeShape}
+use Rattle.reql_feed_range.specs.Feed.{coming, rows_given, world_with}
+use Rattle.reql_feed_read.specs.Follows.{shape_of}
+use Rattle.reql_feed_read.specs.declared.shape.RangeShape.{RangeShape}
 
 nothing_there : (docs : List Document) → length docs ≡ 0 → docs ≡ []
 nothing_there [] e = refl
 nothing_there (m ∷ ms) e = absurd (omega (arith, e))
-
-pub no_documents : (docs : List Document) → docs ≡ [] → length docs ≡ 0
-no_documents docs e = ap length e
 
 pub installed_documents : (t p e : Standing) (c : Changed) (k d : Plain) → t ≡ p → documents_of p ≡ changed_by (documents_of e) (c ∷ []) → length (documents_of e) ≡ 0 → c ≡ coming k d → documents_of t ≡ (k, d) ∷ []
 installed_documents t p e c k d same put empty is =

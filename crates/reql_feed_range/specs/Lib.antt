@@ -1,4 +1,2 @@
-pub mod Scopes
-pub mod Shapes
 pub mod Feed
 pub mod Printed

@@ -7,7 +7,8 @@ ghost use Rattle.reql_datum.specs.Outcome.{Gives, Fails};
 ghost use Rattle.reql_datum.specs.Plain.{Plain, items_of};
 ghost use Rattle.reql_datum.specs.View.{plain};
 ghost use Rattle.reql_feed_law.specs.Value.{is_showable, shown_alone as shown_alone_of, contribution as contribution_of, contribution_at as contribution_at_of};
-ghost use Rattle.reql_feed_range.specs.Feed.{coming, rows_given, shape_of, world_with};
+ghost use Rattle.reql_feed_range.specs.Feed.{coming, rows_given, world_with};
+ghost use Rattle.reql_feed_read.specs.Follows.{shape_of};
 ghost use Rattle.reql_operand.specs.Tables.{seen, slotted};
 ghost use Rattle.reql_table.specs.Seen.{documents_of, indexes_of, entries_at};
 ghost use Rattle.reql_value.specs.Index.{plain_view};
@@ -15,10 +16,10 @@ ghost use Rattle.reql_table.specs.Edits.{told};
 ghost use Rattle.reql_value.specs.Shapes.{answered};
 ghost use Rattle.reql_write_law.specs.Treated.{changed_by};
 
-use crate::shape::RangeShape;
 use reql_bag::in_order;
 use reql_datum::{Datum, Fault, Items, Memory, Name};
 use reql_eval::eval;
+use reql_feed_read::RangeShape;
 use reql_operand::{Viewed, World, to_sequence};
 use reql_sense::Vars;
 use reql_table::{Change, Prepared, Table};
@@ -149,46 +150,44 @@ fn showable(alloc: Global, answer: &Result<Items, Fault>) -> Result<Items, Memor
     }
 }
 
-impl RangeShape {
-    // What the shape gives of a document by itself, where that can be shown.
-    fn shown_alone(&self, alloc: Global, key: &Datum, doc: &Datum) -> Result<Items, Memory>
-        ensures { IfOk result (λ r. r
-            ≡ shown_alone_of (shape_of self.now) (plain key.now, plain doc.now)) }
-    {
-        let table = holding(&self.empty, key, doc)?;
-        let answer = rows(alloc, self, table);
-        showable(alloc, &answer)
-    }
+// What a shape gives of a document by itself, where that can be shown.
+fn shown_alone(alloc: Global, shape: &RangeShape, key: &Datum, doc: &Datum) -> Result<Items, Memory>
+    ensures { IfOk result (λ r. r
+        ≡ shown_alone_of (shape_of shape.now) (plain key.now, plain doc.now)) }
+{
+    let table = holding(&shape.empty, key, doc)?;
+    let answer = rows(alloc, shape, table);
+    showable(alloc, &answer)
+}
 
-    /// What a document adds.
-    pub(crate) fn contribution(
-        &self,
-        alloc: Global,
-        key: &Datum,
-        doc: &Datum,
-    ) -> Result<Items, Memory>
-        ensures adds { IfOk result (λ r. r
-            ≡ contribution_of (shape_of self.now) (plain key.now, plain doc.now)) }
-        ensures rising { IfOk result (λ r. IsRising r) }
-    {
-        let shown = self.shown_alone(alloc, key, doc)?;
-        in_order(alloc, shown)
-    }
+/// What a document adds to what a shape gives.
+pub(crate) fn contribution(
+    alloc: Global,
+    shape: &RangeShape,
+    key: &Datum,
+    doc: &Datum,
+) -> Result<Items, Memory>
+    ensures adds { IfOk result (λ r. r
+        ≡ contribution_of (shape_of shape.now) (plain key.now, plain doc.now)) }
+    ensures rising { IfOk result (λ r. IsRising r) }
+{
+    let shown = shown_alone(alloc, shape, key, doc)?;
+    in_order(alloc, shown)
+}
 
-    /// What the document at a key adds, where there is one.
-    pub(crate) fn contribution_at(
-        &self,
-        alloc: Global,
-        key: &Datum,
-        doc: Option<&Datum>,
-    ) -> Result<Items, Memory>
-        ensures adds { IfOk result (λ r. r ≡ contribution_at_of (shape_of self.now)
-            (plain key.now) (option_map (λ d. plain d.now) doc.entry)) }
-        ensures rising { IfOk result (λ r. IsRising r) }
-    {
-        match doc {
-            None => Ok(Items::new(alloc)),
-            Some(doc) => self.contribution(alloc, key, doc),
-        }
+/// What the document at a key adds, where there is one.
+pub(crate) fn contribution_at(
+    alloc: Global,
+    shape: &RangeShape,
+    key: &Datum,
+    doc: Option<&Datum>,
+) -> Result<Items, Memory>
+    ensures adds { IfOk result (λ r. r ≡ contribution_at_of (shape_of shape.now)
+        (plain key.now) (option_map (λ d. plain d.now) doc.entry)) }
+    ensures rising { IfOk result (λ r. IsRising r) }
+{
+    match doc {
+        None => Ok(Items::new(alloc)),
+        Some(doc) => contribution(alloc, shape, key, doc),
     }
 }

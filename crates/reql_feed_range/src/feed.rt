@@ -4,18 +4,17 @@ ghost use Rattle.reql_datum.specs.Order.{order};
 ghost use Rattle.reql_datum.specs.View.{plain};
 ghost use Rattle.reql_memory.specs.Sorted.{AreRisingBy, find_by};
 ghost use Rattle.reql_term.specs.Views.{Document};
-ghost use Rattle.reql_feed_law.specs.Feeds.{opening_items, queued};
-ghost use Rattle.reql_feed_range.specs.Feed.{Reads, held_of};
+ghost use Rattle.reql_feed_law.specs.Feeds.{kind_of, opening_items, queued};
+ghost use Rattle.reql_feed_read.specs.Follows.{Reads, held_of};
 ghost use Rattle.reql_law.specs.Table.{held, feed_of, is_limit};
 ghost use Rattle.reql_table.specs.Seen.{documents_of, indexes_of};
 
-use crate::follows::{Follows, read};
-use crate::index::kept_index;
 use crate::opening::{open_key, open_nothing, open_shape};
 use crate::printed::Printer;
 use crate::telling::{point_change, range_change};
-use reql_datum::{Items, Memory, Name};
-use reql_law::FeedSpec;
+use reql_datum::{Items, Memory};
+use reql_feed_read::{Follows, index_copy, kept_index, read, request_copy};
+use reql_law::{FeedKind, FeedSpec};
 use reql_table::{Change, IndexDef, Table};
 use std::alloc::Global;
 use std::marker::Model;
@@ -35,7 +34,8 @@ impl Model for RangeFeed {
     ghost use Rattle.reql_datum.specs.Code.{plain_code, list_code, pairs_code};
     ghost use Rattle.reql_term.specs.FormCode.{form_code};
     ghost use Rattle.reql_law.specs.Table.{Held};
-    ghost use Rattle.reql_feed_range.specs.Feed.{Keeps, held_of};
+    ghost use Rattle.reql_feed_range.specs.Feed.{Keeps};
+    ghost use Rattle.reql_feed_read.specs.Follows.{held_of};
 
     ghost Value = { Held };
 
@@ -46,30 +46,6 @@ impl Model for RangeFeed {
     ghost invariant = { λ f. Keeps f.spec f.index f.follows f.printer };
 }
 
-fn copied(name: &Option<Name>) -> Result<Option<Name>, Memory>
-    ensures { IfOk result (λ n. n ≡ name.now) }
-{
-    match name {
-        None => Ok(None),
-        Some(name) => Ok(Some(name.copy()?)),
-    }
-}
-
-fn copy_of(spec: &FeedSpec) -> Result<FeedSpec, Memory>
-    ensures { IfOk result (λ s. s ≡ spec.now) }
-{
-    Ok(FeedSpec {
-        key: spec.key.copy()?,
-        shape: spec.shape.copy()?,
-        index: copied(&spec.index)?,
-        kind: spec.kind,
-        size: spec.size,
-        offsets: spec.offsets,
-        types: spec.types,
-        squash: spec.squash,
-    })
-}
-
 impl RangeFeed {
     fn made(
         spec: FeedSpec,
@@ -77,7 +53,8 @@ impl RangeFeed {
         follows: Follows,
         printer: Printer,
     ) -> RangeFeed
-        requires reads { Reads follows (held_of spec index) }
+        requires reads { Reads follows spec index }
+        requires kind { is_limit spec.kind ≡ false }
         requires offsets { printer.offsets ≡ spec.offsets }
         requires types { printer.types ≡ spec.types }
         ensures { result ≡ held_of spec index }
@@ -112,10 +89,36 @@ impl RangeFeed {
         ensures opening { IfOk result (λ r. r.1
             ≡ opening_items (feed_of r.0).watch (feed_of r.0).shows (documents_of table.now)) }
     {
-        let copy = copy_of(spec)?;
+        let copy = request_copy(spec)?;
         let feed = RangeFeed::of(alloc, copy, table)?;
         let items = feed.opening(alloc, table)?;
         Ok((feed, items))
+    }
+
+    /// What it was asked for.
+    pub fn spec(&self) -> &FeedSpec
+        ensures { result.now ≡ self.now.spec }
+    {
+        &self.spec
+    }
+
+    /// What kind of feed it is.
+    #[tactic(auto, using(crate::proofs::Feeds::kind_kept))]
+    pub fn kind(&self) -> FeedKind
+        ensures { result ≡ kind_of (feed_of self.now).watch }
+    {
+        self.spec.kind
+    }
+
+    /// An equal feed that shares what it holds.
+    pub fn share(&self, alloc: Global) -> Result<RangeFeed, Memory>
+        ensures { IfOk result (λ f. f ≡ self.now) }
+    {
+        let spec = request_copy(&self.spec)?;
+        let index = index_copy(&self.index)?;
+        let follows = self.follows.copy()?;
+        let printer = Printer::new(alloc, spec.offsets, spec.types)?;
+        Ok(RangeFeed::made(spec, index, follows, printer))
     }
 
     fn opening(&self, alloc: Global, table: &Table) -> Result<Items, Memory>
@@ -125,6 +128,7 @@ impl RangeFeed {
         match &self.follows {
             Follows::Key(key) => open_key(alloc, &self.printer, key, table),
             Follows::Shape(shape) => open_shape(alloc, &self.printer, shape, table),
+            Follows::First(_) => unreachable!(),
             Follows::Nothing => open_nothing(alloc, &self.printer, self.spec.kind),
         }
     }
@@ -143,6 +147,7 @@ impl RangeFeed {
             Follows::Shape(shape) => {
                 range_change(alloc, &self.printer, self.spec.squash, shape, change)
             }
+            Follows::First(_) => unreachable!(),
             Follows::Nothing => Ok(Items::new(alloc)),
         }
     }

@@ -4,14 +4,8 @@
 
 mod alone;
 mod feed;
-mod follows;
-mod free;
-mod index;
 mod opening;
-mod point;
 mod printed;
-mod range;
-mod shape;
 mod telling;
 
 pub use feed::RangeFeed;

@@ -1,19 +1,21 @@
 // The value of a range feed on a whole table.
-ghost use Rattle.std.specs.Prelude.{◌≡◌, [], ◌∷◌, ◌++◌, ◌+◌, ◌<◌, ◌^◌, drop, map, IfOk, MatchOption, OnSome, List, option_map};
+ghost use Rattle.std.specs.Prelude.{◌≡◌, [], ◌∷◌, ◌++◌, ◌+◌, ◌<◌, ◌^◌, drop, IfOk, MatchOption, OnSome, List, option_map};
 ghost use Rattle.std.specs.List.{flat_map, zip};
 ghost use Rattle.reql_datum.specs.View.{plain};
 ghost use Rattle.reql_feed_law.specs.Feeds.{one_key, all_given, nothing, opened_from, opening_items};
 ghost use Rattle.reql_feed_law.specs.Shown.{opening, or_null};
 ghost use Rattle.reql_feed_law.specs.Value.{contribution, range_value};
-ghost use Rattle.reql_feed_range.specs.Feed.{GivesAll, shape_of};
+ghost use Rattle.reql_feed_range.specs.Feed.{GivesAll};
+ghost use Rattle.reql_feed_read.specs.Follows.{shape_of};
 ghost use Rattle.reql_feed_range.specs.Printed.{shows};
 ghost use Rattle.reql_table.specs.Seen.{documents_of};
 ghost use Rattle.reql_term.specs.Views.{Document};
 
+use crate::alone::contribution;
 use crate::printed::Printer;
-use crate::shape::RangeShape;
 use reql_bag::in_order;
 use reql_datum::{Datum, Items, Memory};
+use reql_feed_read::RangeShape;
 use reql_law::FeedKind;
 use reql_table::{Entries, Range, Table, TableView};
 use reql_term::Bound;
@@ -94,7 +96,7 @@ fn parts_of(alloc: Global, shape: &RangeShape, all: &Entries) -> Result<Items, M
     let mut parts = Items::new(alloc);
     let mut place = 0;
     while let Some((key, doc)) = document_at(all, place) {
-        let part = shape.contribution(alloc, key, doc)?;
+        let part = contribution(alloc, shape, key, doc)?;
         append(&mut parts, &part)?;
         place += 1;
     }

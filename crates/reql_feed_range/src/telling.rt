@@ -5,13 +5,14 @@ ghost use Rattle.reql_rules.specs.Types.{same};
 ghost use Rattle.reql_feed_law.specs.Items.{point_items, range_items, present};
 ghost use Rattle.reql_feed_law.specs.Shown.{shown, or_null as or_null_of};
 ghost use Rattle.reql_feed_law.specs.Value.{contribution_at};
-ghost use Rattle.reql_feed_range.specs.Feed.{shape_of};
+ghost use Rattle.reql_feed_read.specs.Follows.{shape_of};
 ghost use Rattle.reql_feed_range.specs.Printed.{shows, behind};
 
+use crate::alone::contribution_at;
 use crate::printed::Printer;
-use crate::shape::RangeShape;
 use reql_bag::difference;
 use reql_datum::{Datum, Items, Memory, compare};
+use reql_feed_read::RangeShape;
 use reql_table::Change;
 use std::alloc::Global;
 
@@ -108,8 +109,8 @@ pub(crate) fn range_change(
         (contribution_at (shape_of shape.now) (plain change.now.key)
         (option_map plain change.now.new)))) }
 {
-    let olds = shape.contribution_at(alloc, &change.key, lent(&change.old))?;
-    let news = shape.contribution_at(alloc, &change.key, lent(&change.new))?;
+    let olds = contribution_at(alloc, shape, &change.key, lent(&change.old))?;
+    let news = contribution_at(alloc, shape, &change.key, lent(&change.new))?;
     let parted = difference(alloc, &olds, &news)?;
     let key = key_of(printer, squash, change);
     let items = printer.pairs(alloc, key, &parted.left, &parted.came)?;

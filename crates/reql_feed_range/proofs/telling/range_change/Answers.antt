@@ -1,6 +1,6 @@
 use Rattle.std.proofs.Common.{option_map}
 use Rattle.reql_datum.specs.View.{plain}
-use Rattle.reql_feed_range.specs.Feed.{shape_of}
+use Rattle.reql_feed_read.specs.Follows.{shape_of}
 use Rattle.reql_feed_range.specs.Printed.{shows}
 use Rattle.reql_feed_range.proofs.Changes.{told_pairs}
 use Rattle.reql_feed_range.proofs.telling.range_change.Goals as goal

@@ -1,0 +1,11 @@
+pub mod Slots
+pub mod Firsts
+pub mod Gets
+pub mod Requests
+pub mod Counted
+pub mod Named
+pub mod Parts
+pub mod Choices
+pub mod Reading
+pub mod Limits
+pub mod Orders

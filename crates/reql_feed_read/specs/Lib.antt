@@ -1,0 +1,6 @@
+pub mod Scopes
+pub mod Shapes
+pub mod Order
+pub mod Seen
+pub mod Asked
+pub mod Follows
