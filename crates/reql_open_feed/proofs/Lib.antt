@@ -1,0 +1,5 @@
+pub mod Requests
+pub mod Elements
+pub mod Changes
+pub mod Told
+pub mod Beginnings
