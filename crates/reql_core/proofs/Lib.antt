@@ -1,0 +1,13 @@
+mod Doing
+mod Commands
+mod Keeping
+mod Batches
+mod Subscribed
+mod Numbers
+mod Indexed
+mod Changes
+mod Written
+mod Fulls
+mod Runs
+mod Tails
+mod Answering
