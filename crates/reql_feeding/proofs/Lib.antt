@@ -1,0 +1,4 @@
+pub mod Sizes
+pub mod Chosen
+pub mod Three
+pub mod Opened
