@@ -1,0 +1,7 @@
+mod Arms
+mod Chosen
+mod Closed
+mod Held
+mod Moments
+mod Moving
+mod Showing

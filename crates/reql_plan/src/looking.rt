@@ -1,0 +1,127 @@
+// The snapshots of a request, by rising slot.
+ghost use Rattle.std.specs.Prelude.{◌≡◌, drop};
+ghost use Rattle.reql_term.specs.View.{form_of};
+ghost use Rattle.reql_law.specs.Engines.{HoldsEntries, seen_in};
+ghost use Rattle.reql_held.specs.Seen.{read as seen};
+ghost use Rattle.reql_plan_law.specs.Course.{carried, reading, seen_heard, held};
+ghost use Rattle.reql_plan_law.specs.Move.{looked};
+ghost use Rattle.reql_plan_law.specs.Request.{ends};
+ghost use Rattle.reql_moves.specs.Heard.{heard};
+ghost use Rattle.reql_stages.specs.Turn.{Turns};
+
+use crate::carrying::carried;
+use reql_datum::{Memory, Seq};
+use reql_held::{Read, hold, with_view};
+use reql_law::Look;
+use reql_moves::{Ask, Found};
+use reql_stages::{Asked, Stage, Turn, dropped, lost};
+use reql_term::TableView;
+use std::alloc::Global;
+
+// The next slot that is looked at; after them all the request is carried out.
+pub(crate) fn reading<V: TableView + Drop>(
+    alloc: Global,
+    asked: Asked,
+    read: Read<V>,
+    slots: Seq<u32>,
+    place: usize,
+) -> Result<Turn<V>, Memory>
+    ensures { Turns V.documents V.indexes V.entries result
+        (reading asked.plan asked.setting asked.names (form_of asked.term)
+        (seen V.documents V.indexes V.entries read) (drop place slots) ends) }
+{
+    match slots.at(place) {
+        Some(slot) => {
+            let slot = *slot;
+            Ok(Turn::Ask(
+                Ask::Look(slot),
+                Stage::Looks {
+                    asked,
+                    read,
+                    slot,
+                    slots,
+                    place: place + 1,
+                },
+            ))
+        }
+        None => opened(alloc, asked, read),
+    }
+}
+
+#[tactic(auto, using(crate::proofs::Held::carried_as))]
+fn opened<V: TableView + Drop>(
+    alloc: Global,
+    asked: Asked,
+    read: Read<V>,
+) -> Result<Turn<V>, Memory>
+    ensures { Turns V.documents V.indexes V.entries result
+        (carried (held asked.plan asked.setting asked.names
+        (seen V.documents V.indexes V.entries read)) (form_of asked.term) ends) }
+{
+    let Asked {
+        plan,
+        setting,
+        names,
+        term,
+    } = asked;
+    let e = hold(alloc, &plan, setting, names, read)?;
+    carried(alloc, e, &term)
+}
+
+// What a look found.
+pub(crate) fn looked<V: TableView + Drop>(
+    alloc: Global,
+    asked: Asked,
+    read: Read<V>,
+    slot: u32,
+    slots: Seq<u32>,
+    place: usize,
+    found: Found<V>,
+) -> Result<Turn<V>, Memory>
+    requires holds { HoldsEntries V.documents V.indexes V.entries }
+    ensures { Turns V.documents V.indexes V.entries result
+        (seen_heard asked.names (seen V.documents V.indexes V.entries read) slot
+        (heard V.documents V.indexes found)
+        (λ t. reading asked.plan asked.setting asked.names (form_of asked.term) t
+        (drop place slots) ends)) }
+{
+    match found {
+        Found::Look(look) => sighted(alloc, asked, read, slot, slots, place, look),
+        Found::Names(_) => lost(alloc),
+        Found::Told(_) => lost(alloc),
+        Found::Ran(_) => lost(alloc),
+        Found::Changed(_) => lost(alloc),
+        Found::Rolled(_) => lost(alloc),
+    }
+}
+
+#[tactic(auto, using(crate::proofs::Held::reading_as))]
+fn sighted<V: TableView + Drop>(
+    alloc: Global,
+    asked: Asked,
+    read: Read<V>,
+    slot: u32,
+    slots: Seq<u32>,
+    place: usize,
+    look: Look<V>,
+) -> Result<Turn<V>, Memory>
+    requires holds { HoldsEntries V.documents V.indexes V.entries }
+    ensures { Turns V.documents V.indexes V.entries result
+        (seen_heard asked.names (seen V.documents V.indexes V.entries read) slot
+        (looked (seen_in V.documents V.indexes look))
+        (λ t. reading asked.plan asked.setting asked.names (form_of asked.term) t
+        (drop place slots) ends)) }
+{
+    let Look {
+        place: at,
+        stamp,
+        view,
+    } = look;
+    match view {
+        Some(view) => {
+            let read = with_view(alloc, &asked.names, read, slot, at, stamp, view)?;
+            reading(alloc, asked, read, slots, place)
+        }
+        None => dropped(alloc, &asked.names, slot),
+    }
+}

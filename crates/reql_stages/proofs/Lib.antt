@@ -1,0 +1,5 @@
+mod Elements
+mod Firsts
+mod Keys
+pub mod Saying
+pub mod Turns

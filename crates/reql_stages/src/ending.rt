@@ -1,0 +1,49 @@
+// How a request ends by a fault.
+ghost use Rattle.reql_plan_law.specs.Held.{dropped};
+ghost use Rattle.reql_plan_law.specs.Move.{Outcome};
+ghost use Rattle.reql_plan_law.specs.Request.{Request, ends, refuse};
+ghost use Rattle.reql_stages.specs.Turn.{Turns, Stops, lost_request};
+
+use crate::stage::Turn;
+use reql_catalog::Names;
+use reql_datum::{Fault, Memory, Name};
+use reql_moves::Answered;
+use reql_telling::dropped_of;
+use reql_term::TableView;
+use std::alloc::Global;
+
+/// A fault is the answer, but for want of memory.
+pub fn refused<V: TableView + Drop>(why: Fault) -> Result<Turn<V>, Memory>
+    ensures { (r : Request) → Stops why r → Turns V.documents V.indexes V.entries result r }
+{
+    match why {
+        Fault::Memory => Err(Memory),
+        Fault::QueryLogic(text) => Ok(Turn::Done(Answered::Fault(Fault::QueryLogic(text)))),
+        Fault::NonExistence(text) => Ok(Turn::Done(Answered::Fault(Fault::NonExistence(text)))),
+        Fault::ResourceLimit(text) => Ok(Turn::Done(Answered::Fault(Fault::ResourceLimit(text)))),
+        Fault::OpFailed(text) => Ok(Turn::Done(Answered::Fault(Fault::OpFailed(text)))),
+        Fault::User(text) => Ok(Turn::Done(Answered::Fault(Fault::User(text)))),
+        Fault::Empty => Ok(Turn::Done(Answered::Fault(Fault::Empty))),
+    }
+}
+
+/// The answer to what was found in place of what was asked for, which never comes.
+pub fn lost<V: TableView + Drop>(alloc: Global) -> Result<Turn<V>, Memory>
+    ensures { Turns V.documents V.indexes V.entries result lost_request }
+{
+    let text = Name::of(alloc, "Misplaced term.")?;
+    Ok(Turn::Done(Answered::Fault(Fault::QueryLogic(text))))
+}
+
+/// The answer where the table in a slot was dropped.
+pub fn dropped<V: TableView + Drop>(
+    alloc: Global,
+    names: &Names,
+    slot: u32,
+) -> Result<Turn<V>, Memory>
+    ensures { Turns V.documents V.indexes V.entries result
+        (refuse {A = Outcome} (dropped names.now slot) ends) }
+{
+    let text = dropped_of(alloc, names, slot)?;
+    Ok(Turn::Done(Answered::Fault(Fault::OpFailed(text))))
+}
