@@ -1,3 +1,5 @@
 pub mod Keeping
+pub mod Being
 pub mod Pacing
 pub mod Leading
+pub mod Same

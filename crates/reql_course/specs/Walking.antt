@@ -47,6 +47,10 @@ module _ {PL : Type 0} where
   abbrev pub given_up : Books → ℕ → Course PL → Met → Next PL
   given_up b token c m = close (saw_names m.names b) token (arms_of m.opened.items) Settled (cond c.noreply None (Some Internal))
 
+  -- the same request: its plan, and whether an answer is wanted
+  abbrev pub IsSame : Course PL → Course PL → Type 0
+  IsSame c d = (d.plan ≡ c.plan) × (d.noreply ≡ c.noreply)
+
   -- the points that it met are those of what it found
   abbrev pub IsMet : Course PL → Met → Type 0
   IsMet c m = points_from [] c.found ≡ put_points [] m.points.items

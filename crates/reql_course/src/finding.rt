@@ -5,6 +5,7 @@ ghost use Rattle.reql_hall.specs.Rooms.{Sits};
 ghost use Rattle.reql_law.specs.Replies.{said_of};
 ghost use Rattle.reql_story.specs.Tasks.{others};
 ghost use Rattle.reql_talk.specs.Meant.{arms_of};
+ghost use Rattle.reql_desk_moves.specs.Acting.{AreThere};
 ghost use Rattle.reql_course.specs.Meeting.{ChangesNamesIn, LooksAtNamesIn, LooksSlotIn, RunsSlotIn, at_slot, closed_by, noted, opened_by, without_closed};
 
 use crate::met::Met;
@@ -28,6 +29,7 @@ pub fn look_names<R: Wait, C: TableEngine + Drop>(
     requires of_this_hall { Sits hall.now desk.old }
     ensures of_this_hall { Sits hall.now desk.new }
     ensures looked { LooksAtNamesIn C.some_state desk.old desk.new met.old met.new result }
+    ensures opened { met.new.opened.items ≡ met.old.opened.items }
 {
     let (place, names) = look_names_at(rt, hall, desk)?;
     met.names = place;
@@ -45,6 +47,7 @@ pub fn change_names<R: Wait, C: TableEngine + Drop>(
     requires of_this_hall { Sits hall.now desk.old }
     ensures of_this_hall { Sits hall.now desk.new }
     ensures changed { ChangesNamesIn C.some_state desk.old desk.new met.old met.new cmd result }
+    ensures opened { met.new.opened.items ≡ met.old.opened.items }
 {
     match change_names_at(rt, hall, desk, cmd) {
         Ok(reply) => {
@@ -68,6 +71,7 @@ pub fn look_slot<R: Wait, C: TableEngine + Drop>(
     requires slots { slots ≤ length hall.now.slots }
     ensures of_this_hall { Sits hall.now desk.new }
     ensures looked { LooksSlotIn C.heard C.some_state desk.old desk.new met.old met.new slot result }
+    ensures opened { met.new.opened.items ≡ met.old.opened.items }
 {
     if slot >= slots {
         return Err(Memory);
@@ -163,7 +167,7 @@ fn make_room(alloc: Global, met: &mut Met) -> Result<Name, Memory>
     Ok(name)
 }
 
-/// Runs a command on a slot.
+/// Runs a command on a slot. The slots of all open feeds are there, where they were before.
 pub fn run_slot<R: Wait, C: TableEngine + Drop>(
     rt: &R,
     alloc: Global,
@@ -178,6 +182,8 @@ pub fn run_slot<R: Wait, C: TableEngine + Drop>(
     requires slots { slots ≤ length hall.now.slots }
     ensures of_this_hall { Sits hall.now desk.new }
     ensures ran { RunsSlotIn C.some_state desk.old desk.new met.old met.new slot order result }
+    ensures there { AreThere (length hall.now.slots) met.old.opened.items
+        → AreThere (length hall.now.slots) met.new.opened.items }
 {
     if slot >= slots {
         return Err(Memory);
@@ -192,6 +198,7 @@ pub fn run_slot<R: Wait, C: TableEngine + Drop>(
                 stamp: reply.stamp,
             });
             note(&mut met.opened, slot, closed, &reply.said, dropped);
+            met.ran = true;
             Ok(reply)
         }
         Err(_) => {

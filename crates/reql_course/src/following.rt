@@ -5,8 +5,8 @@ ghost use Rattle.reql_outside.specs.Source.{Source, Gives};
 ghost use Rattle.reql_law.specs.Machine.{State};
 ghost use Rattle.reql_story.specs.Requests.{ChangeNames, LookNames, LookSlot, Roll, RunSlot, TellTime};
 ghost use Rattle.reql_talk.specs.Meant.{move_of, next_of};
-ghost use Rattle.reql_desk_moves.specs.Acting.{AtDesk};
-ghost use Rattle.reql_course.specs.Walking.{Follows, IsNext, StepsTo, tools};
+ghost use Rattle.reql_desk_moves.specs.Acting.{AreThere, AtDesk};
+ghost use Rattle.reql_course.specs.Walking.{Follows, IsNext, IsSame, StepsTo, tools};
 
 use crate::finding::{change_names, look_names, look_slot, run_slot};
 use crate::met::Met;
@@ -77,6 +77,9 @@ fn on_names<R: Wait, C: TableEngine + Drop, P: Planner<View = <C as TableEngine>
     requires of_this_hall { Sits hall.now desk.old }
     requires asks { next_of (P.talk planner.now) (P.state course.old) ≡ LookNames }
     ensures of_this_hall { Sits hall.now desk.new }
+    ensures there { AreThere (length hall.now.slots) met.old.opened.items
+        → AreThere (length hall.now.slots) met.new.opened.items }
+    ensures request { IsSame (P.state course.old) (P.state course.new) }
     ensures steps { (clock : Source ℤ) (dice : Source (List ℕ)) → StepsTo (P.talk planner.now) C.some_state
         (tools desk.old clock dice) (tools desk.new clock dice) (P.state course.old)
         (P.state course.new) met.old met.new result }
@@ -100,6 +103,9 @@ fn on_change<R: Wait, C: TableEngine + Drop, P: Planner<View = <C as TableEngine
     requires of_this_hall { Sits hall.now desk.old }
     requires asks { next_of (P.talk planner.now) (P.state course.old) ≡ ChangeNames cmd }
     ensures of_this_hall { Sits hall.now desk.new }
+    ensures there { AreThere (length hall.now.slots) met.old.opened.items
+        → AreThere (length hall.now.slots) met.new.opened.items }
+    ensures request { IsSame (P.state course.old) (P.state course.new) }
     ensures steps { (clock : Source ℤ) (dice : Source (List ℕ)) → StepsTo (P.talk planner.now) C.some_state
         (tools desk.old clock dice) (tools desk.new clock dice) (P.state course.old)
         (P.state course.new) met.old met.new result }
@@ -125,6 +131,9 @@ fn on_look<R: Wait, C: TableEngine + Drop, P: Planner<View = <C as TableEngine>:
     requires slots { slots ≤ length hall.now.slots }
     requires asks { next_of (P.talk planner.now) (P.state course.old) ≡ LookSlot slot }
     ensures of_this_hall { Sits hall.now desk.new }
+    ensures there { AreThere (length hall.now.slots) met.old.opened.items
+        → AreThere (length hall.now.slots) met.new.opened.items }
+    ensures request { IsSame (P.state course.old) (P.state course.new) }
     ensures steps { (clock : Source ℤ) (dice : Source (List ℕ)) → StepsTo (P.talk planner.now) C.some_state
         (tools desk.old clock dice) (tools desk.new clock dice) (P.state course.old)
         (P.state course.new) met.old met.new result }
@@ -152,6 +161,9 @@ fn on_run<R: Wait, C: TableEngine + Drop, P: Planner<View = <C as TableEngine>::
     requires slots { slots ≤ length hall.now.slots }
     requires asks { next_of (P.talk planner.now) (P.state course.old) ≡ RunSlot slot order }
     ensures of_this_hall { Sits hall.now desk.new }
+    ensures there { AreThere (length hall.now.slots) met.old.opened.items
+        → AreThere (length hall.now.slots) met.new.opened.items }
+    ensures request { IsSame (P.state course.old) (P.state course.new) }
     ensures steps { (clock : Source ℤ) (dice : Source (List ℕ)) → StepsTo (P.talk planner.now) C.some_state
         (tools desk.old clock dice) (tools desk.new clock dice) (P.state course.old)
         (P.state course.new) met.old met.new result }
@@ -170,7 +182,8 @@ fn on_time<T: Clock, P: Planner>(
     met: &Met,
 ) -> After
     requires asks { next_of (P.talk planner.now) (P.state course.old) ≡ TellTime }
-    ensures { (some : State) (desk : AtDesk) (dice : Source (List ℕ)) → StepsTo (P.talk planner.now) some
+    ensures request { IsSame (P.state course.old) (P.state course.new) }
+    ensures steps { (some : State) (desk : AtDesk) (dice : Source (List ℕ)) → StepsTo (P.talk planner.now) some
         (tools desk (T.told clock.old) dice) (tools desk (T.told clock.new) dice) (P.state course.old)
         (P.state course.new) met.now met.now result }
 {
@@ -186,7 +199,8 @@ fn on_roll<D: Dice, P: Planner>(
     met: &Met,
 ) -> After
     requires asks { next_of (P.talk planner.now) (P.state course.old) ≡ Roll }
-    ensures { (some : State) (desk : AtDesk) (clock : Source ℤ) → StepsTo (P.talk planner.now) some
+    ensures request { IsSame (P.state course.old) (P.state course.new) }
+    ensures steps { (some : State) (desk : AtDesk) (clock : Source ℤ) → StepsTo (P.talk planner.now) some
         (tools desk clock (D.told dice.old)) (tools desk clock (D.told dice.new)) (P.state course.old)
         (P.state course.new) met.now met.now result }
 {
@@ -218,6 +232,9 @@ fn step<
     requires slots { slots ≤ length hall.now.slots }
     requires asks { next_of (P.talk planner.now) (P.state course.old) ≡ move_of next }
     ensures of_this_hall { Sits hall.now desk.new }
+    ensures there { AreThere (length hall.now.slots) met.old.opened.items
+        → AreThere (length hall.now.slots) met.new.opened.items }
+    ensures request { IsSame (P.state course.old) (P.state course.new) }
     ensures steps { StepsTo (P.talk planner.now) C.some_state
         (tools desk.old (T.told clock.old) (D.told dice.old))
         (tools desk.new (T.told clock.new) (D.told dice.new)) (P.state course.old)
@@ -238,7 +255,8 @@ fn step<
     }
 }
 
-/// Follows a course that has found nothing yet, to what it comes to.
+/// Follows a course that has found nothing yet, to what it comes to. The slots of all open feeds are there, where they were
+/// before.
 pub fn follow<
     R: Wait,
     C: TableEngine + Drop,
@@ -262,6 +280,9 @@ pub fn follow<
     requires first { (P.state course.old).found ≡ [] }
     requires points { met.old.points.items ≡ [] }
     ensures of_this_hall { Sits hall.now desk.new }
+    ensures there { AreThere (length hall.now.slots) met.old.opened.items
+        → AreThere (length hall.now.slots) met.new.opened.items }
+    ensures request { IsSame (P.state course.old) (P.state course.new) }
     ensures follows { Follows (P.talk planner.now) C.some_state
         (tools desk.old (T.told clock.old) (D.told dice.old))
         (tools desk.new (T.told clock.new) (D.told dice.new)) (P.state course.old)

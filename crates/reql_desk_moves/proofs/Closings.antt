@@ -15,7 +15,7 @@ use Rattle.reql_story.proofs.Going.{does_on}
 use Rattle.reql_story.proofs.Steps.{does_none, does_act}
 use Rattle.reql_talk.specs.Meant.{arm_of}
 use Rattle.reql_desk_moves.specs.Acting.{AtDesk, ClosesArm}
-use Rattle.reql_desk_moves.specs.Steps.{Steps, StopsArms}
+use Rattle.reql_desk_moves.specs.Steps.{Steps, StopsArms, after_closing}
 use Rattle.reql_talk.specs.declared.answered.Arm as coded
 use Rattle.reql_desk_moves.proofs.Stepping.{next_in, steps_none, steps_on, steps_ran, steps_denied}
 
@@ -81,12 +81,27 @@ module _ {PL : Type 0} (k : Talk PL) (some : State) where
   pub stopped_denied : (p q : AtDesk) (b : Books) (token : ℕ) (a : Option Answer) (arms : List coded.Arm) (arm : coded.Arm) (whole : Bool) → whole ≡ false → 0 < length arms → arm ≡ get_or arms 0 arm → ClosesArm some p q arm whole → StopsArms k some p q b token (map arm_of arms) a false
   stopped_denied p q b token a arms arm whole w h is c = subst (λ z. StopsArms k some p q b token z a false) (sym (first_in arms arm h is)) (stop_denied p q b token arm (map arm_of (drop 1 arms)) a (subst (ClosesArm some p q arm) w c))
 
+  pub ended_none : (p : AtDesk) (b : Books) (token : ℕ) (firm : Firm) (a : Option Answer) (arms : List coded.Arm) → length arms ≡ 0 → Steps k some p p (close b token (map arm_of arms) firm a) (may_tell (after_closing b token (map arm_of arms)) token a)
+  ended_none p b token firm a [] e = steps_none k some p (may_tell b token a)
+  ended_none p b token firm a (x ∷ xs) e = absurd (omega (arith, e))
+
+  -- the first arm closes what is open, and then come the others
+  ended_all : (p q r : AtDesk) (b : Books) (token : ℕ) (firm : Firm) (a : Option Answer) (arms : List coded.Arm) (arm : coded.Arm) → 0 < length arms → arm ≡ get_or arms 0 arm →
+      Steps k some p q (close b token (arm_of arm ∷ map arm_of (drop 1 arms)) firm a) (close (closed token b) token (map arm_of (drop 1 arms)) Settled a) →
+      (closed token (closed token b) ≡ closed token b → Steps k some q r (close (closed token b) token (map arm_of (drop 1 arms)) Settled a) (may_tell (closed token b) token a)) →
+      Steps k some p r (close b token (map arm_of arms) firm a) (may_tell (after_closing b token (map arm_of arms)) token a)
+  ended_all p q r b token firm a arms arm h is c d =
+      subst (λ z. Steps k some p r (close b token z firm a) (may_tell (after_closing b token z) token a)) (sym (first_in arms arm h is))
+      (steps_on k some p q r (close b token (arm_of arm ∷ map arm_of (drop 1 arms)) firm a) (close (closed token b) token (map arm_of (drop 1 arms)) Settled a) (may_tell (closed token b) token a)
+      c (d (closed_twice token b)))
+
+  pub settled_all : (p q r : AtDesk) (b : Books) (token : ℕ) (a : Option Answer) (arms : List coded.Arm) (arm : coded.Arm) (whole : Bool) → 0 < length arms → arm ≡ get_or arms 0 arm → ClosesArm some p q arm whole →
+      (closed token (closed token b) ≡ closed token b → Steps k some q r (close (closed token b) token (map arm_of (drop 1 arms)) Settled a) (may_tell (closed token b) token a)) → Steps k some p r (close b token (map arm_of arms) Settled a) (may_tell (after_closing b token (map arm_of arms)) token a)
+  settled_all p q r b token a arms arm whole h is c d = ended_all p q r b token Settled a arms arm h is (closes_on p q b token arm (map arm_of (drop 1 arms)) a whole c) d
+
   pub dropped_all : (p q r : AtDesk) (b : Books) (token : ℕ) (a : Option Answer) (arms : List coded.Arm) (arm : coded.Arm) (whole : Bool) → 0 < length arms → arm ≡ get_or arms 0 arm → ClosesArm some p q arm whole →
-      (closed token (closed token b) ≡ closed token b → Steps k some q r (close (closed token b) token (map arm_of (drop 1 arms)) Settled a) (may_tell (closed token b) token a)) → Steps k some p r (close b token (map arm_of arms) Drops a) (may_tell (closed token b) token a)
-  dropped_all p q r b token a arms arm whole h is c d =
-      subst (λ z. Steps k some p r (close b token z Drops a) (may_tell (closed token b) token a)) (sym (first_in arms arm h is))
-      (steps_on k some p q r (close b token (arm_of arm ∷ map arm_of (drop 1 arms)) Drops a) (close (closed token b) token (map arm_of (drop 1 arms)) Settled a) (may_tell (closed token b) token a)
-      (drops_on p q b token arm (map arm_of (drop 1 arms)) a whole c) (d (closed_twice token b)))
+      (closed token (closed token b) ≡ closed token b → Steps k some q r (close (closed token b) token (map arm_of (drop 1 arms)) Settled a) (may_tell (closed token b) token a)) → Steps k some p r (close b token (map arm_of arms) Drops a) (may_tell (after_closing b token (map arm_of arms)) token a)
+  dropped_all p q r b token a arms arm whole h is c d = ended_all p q r b token Drops a arms arm h is (drops_on p q b token arm (map arm_of (drop 1 arms)) a whole c) d
 
   -- a session that leaves
   abbrev pub Left : AtDesk → AtDesk → List Arm → List Arm → Type 0

@@ -67,9 +67,10 @@ module _ {PL : Type 0} (k : Talk PL) (some : State) where
         arm_of arm,
         rest,
         ap (drop i) s ∙ drop_map arm_of arms i ∙ next_in arm_of arms i arm arm h is,
+        t.0,
         steps_on k some p q r (at b (Visiting f.token f.arms [])) (at b (Visiting f.token (arm_of arm ∷ rest) before)) (took_said k b f (arm_of arm) rest after (told_of reply).said) (visit_here p q b f arms i arm seen h is v)
             (steps_ran k some q r b (Visiting f.token (arm_of arm ∷ rest) before) (took_said k b f (arm_of arm) rest after (told_of reply).said) arm.slot (take_order arm.feed batch) (told_of reply) reply.saved (f, e, refl, ap (take_order arm.feed) (sym n))
-            (takes_at b f (arm_of arm) rest before (told_of reply) e ∙ ap (λ z. took_said k b f (arm_of arm) rest z (told_of reply).said) (ap (λ z. put_point z before) (sym t.0) ∙ sym (put_more [] seen met))) t.1),
+            (takes_at b f (arm_of arm) rest before (told_of reply) e ∙ ap (λ z. took_said k b f (arm_of arm) rest z (told_of reply).said) (ap (λ z. put_point z before) (sym t.1) ∙ sym (put_more [] seen met))) t.2),
       )
 
   pub visit_denied : (p q r : AtDesk) (b : Books) (f : Open) (arms : List coded.Arm) (i : ℕ) (arm : coded.Arm) (batch : ℕ) (seen : List Point) → feed_of f.token b.feeds ≡ Some f → f.batch ≡ batch → i < length arms → arm ≡ get_or arms i arm → VisitAt p q b f arms i seen →

@@ -77,7 +77,7 @@ module _ (some : State) where
   -- a Take
   abbrev pub TakesArm : AtDesk → AtDesk → Arm → ℕ → Taken → Type 0
   TakesArm p q arm batch (taken.Nothing seen) = (reply : Answered) × (saved : Saved) × (tells_something reply.said ≡ false) × (seen ≡ point arm.slot reply.place reply.stamp) × Answers p q arm.slot (take_order arm.feed batch) reply saved
-  TakesArm p q arm batch (taken.Answered reply seen) = (seen ≡ point arm.slot reply.place reply.stamp) × Answers p q arm.slot (take_order arm.feed batch) (told_of reply) reply.saved
+  TakesArm p q arm batch (taken.Answered reply seen) = (tells_something (said_of reply.said) ≡ true) × (seen ≡ point arm.slot reply.place reply.stamp) × Answers p q arm.slot (take_order arm.feed batch) (told_of reply) reply.saved
   TakesArm p q arm batch taken.Denied = Denies p q arm.slot
 
   -- the names alone

@@ -8,7 +8,7 @@ use Rattle.reql_story.specs.Books.{Books, Open, closed, waits}
 use Rattle.reql_story.specs.Tasks.{Talk, Next, Visiting, Stops, at, done, only_tell, may_tell, close, took_said}
 use Rattle.reql_story.specs.Session.{Mach, goes_on}
 use Rattle.reql_story.specs.Worlds.{Does, at_desk}
-use Rattle.reql_desk_moves.specs.Acting.{AtDesk}
+use Rattle.reql_desk_moves.specs.Acting.{AtDesk, tells_something}
 use Rattle.reql_desk_moves.specs.declared.taking.Visited.{Visited}
 use Rattle.reql_desk_moves.specs.declared.taking.Visited.TheVariants as visited
 
@@ -35,5 +35,5 @@ module _ {PL : Type 0} (k : Talk PL) (some : State) where
   -- a visit, from the first arm on
   abbrev pub VisitsArms : AtDesk → AtDesk → Books → Open → Visited → Type 0
   VisitsArms p q b f visited.Waits = Steps p q (at b (Visiting f.token f.arms [])) (done (waits f.token b))
-  VisitsArms p q b f (visited.Took place reply points) = (arm : Arm) × (arms : List Arm) × (drop place f.arms ≡ arm ∷ arms) × Steps p q (at b (Visiting f.token f.arms [])) (took_said k b f arm arms (put_points [] points) (said_of reply.said))
+  VisitsArms p q b f (visited.Took place reply points) = (arm : Arm) × (arms : List Arm) × (drop place f.arms ≡ arm ∷ arms) × (tells_something (said_of reply.said) ≡ true) × Steps p q (at b (Visiting f.token f.arms [])) (took_said k b f arm arms (put_points [] points) (said_of reply.said))
   VisitsArms p q b f visited.Denied = Steps p q (at b (Visiting f.token f.arms [])) (only_tell b f.token Internal)

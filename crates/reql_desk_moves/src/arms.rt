@@ -10,7 +10,7 @@ ghost use Rattle.reql_story.specs.Worlds.{Does, at_desk};
 ghost use Rattle.reql_story.specs.declared.end.End.{End};
 ghost use Rattle.reql_talk.specs.Meant.{arms_of};
 ghost use Rattle.reql_desk_moves.specs.Acting.{AreThere, ClosesArm};
-ghost use Rattle.reql_desk_moves.specs.Steps.{Steps, StopsArms};
+ghost use Rattle.reql_desk_moves.specs.Steps.{Steps, StopsArms, after_closing};
 
 use crate::slots::run_at;
 use reql_catalog::Catalogue;
@@ -92,8 +92,9 @@ pub fn stop_arms<P: Planning, R: Wait, C: TableEngine + Drop>(
     }
 }
 
-/// Unsubscribes each arm in order, after another arm of the same feed told that its table was dropped.
-pub fn drop_arms<P: Planning, R: Wait, C: TableEngine + Drop>(
+/// Unsubscribes each arm in order, of a feed that came to its end: it was lost before it was told, or another arm of it
+/// told that its table was dropped. After the first Unsubscribe its token has nothing open any more.
+pub fn end_arms<P: Planning, R: Wait, C: TableEngine + Drop>(
     rt: &R,
     alloc: Global,
     hall: &Hall<C, Catalogue>,
@@ -102,12 +103,17 @@ pub fn drop_arms<P: Planning, R: Wait, C: TableEngine + Drop>(
 )
     requires of_this_hall { Sits hall.now desk.old }
     requires there { AreThere (length hall.now.slots) arms.now }
-    requires some { 0 < length arms.now }
     ensures of_this_hall { Sits hall.now desk.new }
+    ensures settled { (k : Talk P.Plan) (b : Books) (token : ℕ) (a : Option Answer)
+        → Steps k C.some_state desk.old desk.new (close b token (arms_of arms.now) Settled a)
+        (may_tell (after_closing b token (arms_of arms.now)) token a) }
     ensures dropped { (k : Talk P.Plan) (b : Books) (token : ℕ) (a : Option Answer)
         → Steps k C.some_state desk.old desk.new (close b token (arms_of arms.now) Drops a)
-        (may_tell (closed token b) token a) }
+        (may_tell (after_closing b token (arms_of arms.now)) token a) }
 {
+    if arms.len() == 0 {
+        return;
+    }
     close_arm(rt, alloc, hall, desk, &arms[0]);
     close_arms::<P, R, C>(rt, alloc, hall, desk, arms, 1);
 }

@@ -9,7 +9,7 @@ mod names;
 mod slots;
 mod taking;
 
-pub use arms::{close_arms, drop_arms, leave_arms, stop_arms};
+pub use arms::{close_arms, end_arms, leave_arms, stop_arms};
 pub use names::{change_names_at, look_names_at};
 pub use slots::{look_at, run_at};
 pub use taking::{Visited, visit_arms};

@@ -1,5 +1,5 @@
 -- What keeps the tokens of books apart.
-use Rattle.std.proofs.Common.{◌≡◌, ℕ, Bool, true, false, true≢false, not, cond, ◌||◌, List, [], ◌∷◌, ◌++◌, map, filter, Option, Some, None, is_some, refl, sym, ap, subst, ◌∙◌}
+use Rattle.std.proofs.Common.{◌≡◌, ℕ, Bool, true, false, true≢false, not, cond, ◌||◌, List, [], ◌∷◌, ◌++◌, map, filter, Some, is_some, refl, sym, ap, subst, ◌∙◌}
 use Rattle.std.specs.Prelude.{nat_eq}
 use Rattle.std.proofs.lemmas.Bool.{eqb-true, eq-eqb}
 use Rattle.std.proofs.lemmas.List.{map-append}
@@ -10,14 +10,14 @@ use Rattle.reql_story.specs.Books.{Books, Cursor, Open, has_token, cursor_of, fe
 use Rattle.reql_shelf.specs.Apart.{AllApart, IsApart}
 use Rattle.reql_shelf.proofs.Places.{first_off, second_off}
 
-turned : (t u : ℕ) → nat_eq t u ≡ false → nat_eq u t ≡ false
+pub turned : (t u : ℕ) → nat_eq t u ≡ false → nat_eq u t ≡ false
 turned t u off = split (nat_eq u t) (λ b. b ≡ false) (λ on. absurd (true≢false (sym (eq-eqb t u (sym (eqb-true u t on))) ∙ off))) (λ _. refl)
 
-or_off : (x y : Bool) → x ≡ false → y ≡ false → (x || y) ≡ false
+pub or_off : (x y : Bool) → x ≡ false → y ≡ false → (x || y) ≡ false
 or_off true y e f = e
 or_off false y e f = f
 
-has_push : (t u : ℕ) (ts : List ℕ) → has_token t ts ≡ false → nat_eq u t ≡ false → has_token t (ts ++ u ∷ []) ≡ false
+pub has_push : (t u : ℕ) (ts : List ℕ) → has_token t ts ≡ false → nat_eq u t ≡ false → has_token t (ts ++ u ∷ []) ≡ false
 has_push t u [] off other = or_off (nat_eq u t) false other refl
 has_push t u (v ∷ ts) off other = or_off (nat_eq v t) (has_token t (ts ++ u ∷ [])) (first_off (nat_eq v t) (has_token t ts) off) (has_push t u ts (second_off (nat_eq v t) (has_token t ts) off) other)
 

@@ -1,5 +1,5 @@
 -- A cursor or a feed goes on.
-use Rattle.std.proofs.Common.{◌≡◌, ℕ, ◌<◌, true, cond, List, [], ◌∷◌, map, drop, length, get_or, Some, not, filter, Vec, Global, refl, sym, ap, subst, ◌∙◌, arith}
+use Rattle.std.proofs.Common.{◌≡◌, ℕ, ◌<◌, true, List, [], ◌∷◌, map, drop, length, get_or, Some, Vec, Global, refl, sym, ap, subst, ◌∙◌, arith}
 use Rattle.std.specs.Prelude.{nat_eq}
 use Rattle.std.specs.Prelude.{set}
 use Rattle.std.proofs.lemmas.List.{map-set, get_or-map, length-map, drop-map}

@@ -1,2 +1,4 @@
 pub mod Kept
 pub mod Apart
+pub mod Quiet
+pub mod There

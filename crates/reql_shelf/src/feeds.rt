@@ -1,6 +1,6 @@
 // The open feeds, in the order of opening.
 ghost use Rattle.std.specs.Prelude.{◌≡◌, ◌<◌, None, Some, true, length, map, filter, not, nat_eq, slice_index_or, drop, option_map, MatchOption};
-ghost use Rattle.std.specs.Prelude.{set};
+ghost use Rattle.std.specs.Prelude.{set, remove};
 ghost use Rattle.reql_story.specs.Books.{feed_of};
 ghost use Rattle.reql_story.specs.Books as books;
 ghost use Rattle.reql_shelf.specs.Apart.{AllApart, feeds_with};
@@ -46,6 +46,37 @@ pub(crate) fn forget(feeds: &mut Vec<Open>, token: u64)
     ensures { feeds.new.items ≡ filter (λ f. not (nat_eq f.token token)) feeds.old.items }
 {
     feeds.retain(|feed| feed.token != token);
+}
+
+// What stands at a place is taken out.
+fn take_at(feeds: &mut Vec<Open>, place: usize) -> Open
+    requires { place < length feeds.old.items }
+    ensures taken { result ≡ slice_index_or feeds.old.items place result }
+    ensures left { feeds.new.items ≡ remove feeds.old.items place }
+{
+    feeds.remove(place)
+}
+
+// The first feed of a token is taken out.
+fn take_first(feeds: &mut Vec<Open>, token: u64) -> Option<Open>
+    ensures taken { option_map feed_kept result ≡ feed_of token (map feed_kept feeds.old.items) }
+    ensures left { filter (λ f. not (nat_eq f.token token)) feeds.new.items
+        ≡ filter (λ f. not (nat_eq f.token token)) feeds.old.items }
+{
+    match place_of(feeds.as_slice(), token) {
+        Some(place) => Some(take_at(feeds, place)),
+        None => None,
+    }
+}
+
+/// Takes the feed of a token out.
+pub(crate) fn take(feeds: &mut Vec<Open>, token: u64) -> Option<Open>
+    ensures taken { option_map feed_kept result ≡ feed_of token (map feed_kept feeds.old.items) }
+    ensures left { feeds.new.items ≡ filter (λ f. not (nat_eq f.token token)) feeds.old.items }
+{
+    let taken = take_first(feeds, token);
+    forget(feeds, token);
+    taken
 }
 
 // So many are told of what is kept.

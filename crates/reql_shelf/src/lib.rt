@@ -12,6 +12,6 @@ mod open;
 mod shelf;
 mod waiting;
 
-pub use laws::shelf_laws;
+pub use laws::{shelf_laws, slot_laws, waiting_laws};
 pub use open::{Cursor, Open};
 pub use shelf::Shelf;

@@ -1,5 +1,5 @@
 // All that is open in a session.
-ghost use Rattle.std.specs.Prelude.{◌≡◌, ◌<◌, None, Some, IfOk, drop, map, option_map, vec_len, vec_capacity};
+ghost use Rattle.std.specs.Prelude.{◌≡◌, ◌<◌, [], None, Some, IfOk, drop, map, option_map, vec_len, vec_capacity};
 ghost use Rattle.reql_story.specs.Books.{closed, cursor_of, feed_of, has_token, is_open, no_books, opened, saw_names, waits, with_cursor, with_feed, with_left, with_rest, without};
 ghost use Rattle.reql_story.specs.Books as books;
 ghost use Rattle.reql_shelf.specs.Kept.{books_of, cursor_kept, feed_kept, items_left};
@@ -10,6 +10,7 @@ use crate::{cursors, feeds, waiting};
 use reql_memory::Memory;
 use reql_talk::Shown;
 use std::alloc::Global;
+use std::mem;
 
 /// What a session holds open between its requests.
 #[derive(Drop)]
@@ -139,6 +140,14 @@ impl Shelf {
         waiting::forget(&mut self.waiting, token);
     }
 
+    /// The tokens that wait, in order. None waits any longer.
+    pub fn take_waiting(&mut self, alloc: Global) -> Vec<u64>
+        ensures none { books_of self.new ≡ record (books_of self.old) { waiting = [] } }
+        ensures tokens { result.items ≡ (books_of self.old).waiting }
+    {
+        mem::replace(&mut self.waiting, Vec::new(alloc))
+    }
+
     /// A batch of a cursor was told.
     pub fn advance_cursor(&mut self, token: u64)
         ensures { (c : books.Cursor) → IsApart (books_of self.old)
@@ -181,5 +190,17 @@ impl Shelf {
         cursors::forget(&mut self.cursors, token);
         feeds::forget(&mut self.feeds, token);
         waiting::forget(&mut self.waiting, token);
+    }
+
+    /// Takes the feed of a token out. The token has nothing open any more, and no longer waits.
+    #[tactic(auto, using(crate::proofs::Closing::cursors_kept, crate::proofs::Closing::feeds_kept))]
+    pub fn remove_feed(&mut self, token: u64) -> Option<Open>
+        ensures closed { books_of self.new ≡ closed token (books_of self.old) }
+        ensures feed { option_map feed_kept result ≡ feed_of token (books_of self.old).feeds }
+    {
+        let feed = feeds::take(&mut self.feeds, token);
+        cursors::forget(&mut self.cursors, token);
+        waiting::forget(&mut self.waiting, token);
+        feed
     }
 }

@@ -24,7 +24,7 @@ use Rattle.reql_story.specs.Tasks.{Talk, Drops, Settled, Task, Planning, Visitin
 use Rattle.reql_story.specs.Bodies.{full}
 use Rattle.reql_story.specs.Minding.{has_arm, Minds, IsOther, PlansMind}
 use Rattle.reql_story.proofs.Shelves.{or_false, which, has, has_append, has_filter, of, of_append, of_cut, IsClean, Cleans, Others, LiveIn, Fine, found_token, found_clean, live_found, apart_clean, clean_closed, live_closed, fine_closed, closes_it, clean_left, live_apart, live_left}
-use Rattle.reql_story.proofs.Tellings.{F, Clean, OkTask, OkNext, NoSent, visiting_fine, closing_on, own_token, nils, no_more_sent, ok_tell, ok_other, ok_close}
+use Rattle.reql_story.proofs.Tellings.{F, Clean, OkTask, OkNext, NoSent, visiting_fine, closing_on, own_token, nils, no_more_sent, ok_tell, ok_close}
 
 pub and_false : (x : Bool) → (x && false) ≡ false
 and_false true = refl
@@ -124,7 +124,13 @@ module _ {PL : Type 0} (k : Talk PL) (on : PL → Bool → ℕ → List Found �
   ]
 
   ok_gone : (b : Books) (arm : Arm) (arms : List Arm) (f : Open) (p : List (ℕ × Plain)) (points : List Point) (left : List Arm) → (has σ φ left ≡ true → has σ φ f.arms ≡ true) → Visited b arm arms f p → Ok (gone k b f arm points left) p
-  ok_gone b arm arms f p points [] h v = ok_other k on σ φ c b f.token _ (closed f.token b) p v.fine (fine_closed σ φ c f.token b.feeds p v.fine) refl
+  ok_gone b arm arms f p points [] h v = record {
+    rest = p;
+    said = ap (λ z. z ++ p) (sym (no_more_sent k on σ φ c (Failed errors.OpFailed arm.dropped (Some (stamped b.names points))) refl));
+    next = fine_closed σ φ c f.token b.feeds p v.fine;
+    lost = v.fine;
+    then_so = tt;
+  }
   ok_gone b arm arms f p points (a ∷ left) h v = ok_close k on σ φ c b f.token (a ∷ left) Drops (Some (fitted k (Failed errors.OpFailed arm.dropped (Some (stamped b.names points))))) p v.fine (λ t. closes_it σ φ c f.token b.feeds p f v.found (h t) v.fine) (no_more_sent k on σ φ c (Failed errors.OpFailed arm.dropped (Some (stamped b.names points))) refl)
 
   nothing_new : (b : Bool) → cond {A = List (ℕ × Plain)} b [] [] ≡ []

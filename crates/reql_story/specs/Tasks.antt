@@ -253,8 +253,9 @@ module _ {PL : Type 0} (k : Talk PL) where
       cond (is_empty (skip ++ changes)) (done (waits f.token b))
       (tell b f.token (Batch f.notes (skip ++ take f.batch changes) (Some (stamped b.names points))) (with_left f.token (drop f.batch changes) b) f.arms (Some f.arms))
 
+  -- the table of an arm was dropped: a feed without other arms stays open until the fault was sent
   abbrev pub gone : Books → Open → Arm → List Point → List Arm → Next PL
-  gone b f arm points [] = tell b f.token (Failed errors.OpFailed arm.dropped (Some (stamped b.names points))) (closed f.token b) [] None
+  gone b f arm points [] = at b (Telling f.token (fitted (Failed errors.OpFailed arm.dropped (Some (stamped b.names points)))) (closed f.token b) None None)
   gone b f arm points (other ∷ others) = close b f.token (other ∷ others) Drops (Some (fitted (Failed errors.OpFailed arm.dropped (Some (stamped b.names points)))))
 
   abbrev pub took_said : Books → Open → Arm → List Arm → List Point → Said Summary Plain → Next PL

@@ -118,7 +118,7 @@ United =
 abbrev pub Dropped : Type 0
 Dropped =
     (ran sample open_books (Visiting 9 (arm ∷ []) []) 0 (cmds.Take 1 2) (record { place = 2; stamp = 0; said = said.Gone }) saved.Yes
-    ≡ tell sample open_books 9 (Failed errors.OpFailed dropped (Some (stamped 5 (point 0 2 0 ∷ [])))) looked [] None)
+    ≡ at open_books (Telling 9 (fitted sample (Failed errors.OpFailed dropped (Some (stamped 5 (point 0 2 0 ∷ []))))) looked None None))
     × (begin sample looked 9 Continue ≡ tell_now sample looked 9 (Client (not_open 9)))
     × (begin sample open_books 9 (Start false 0) ≡ tell_now sample open_books 9 (Client (in_use 9)))
     × (begin sample open_books 9 (Start true 0) ≡ done open_books)

@@ -1,6 +1,9 @@
 // What answers the frames of a session.
 ghost use Rattle.std.specs.Prelude.{◌≡◌, ◌++◌, ℕ, List, [], Bool, true};
 ghost use Rattle.reql_wire.specs.Frames.{Fits, spelling};
+ghost use Rattle.reql_hall.specs.Rooms.{Rooms};
+ghost use Rattle.reql_catalog.specs.declared.catalog.Catalog.{Catalog};
+ghost use Rattle.reql_law.specs.Machine.{State};
 ghost use Rattle.reql_story.specs.Books.{all_arms};
 ghost use Rattle.reql_story.specs.Session.{Mach, Leaving, Rest, Visits};
 ghost use Rattle.reql_story.specs.Tasks.{Talk};
@@ -21,29 +24,44 @@ pub trait Handler<L: Link> {
 
     ghost work: { Self → AtWork };
 
+    // What it keeps true of itself between its calls, from the session's first one on.
+    ghost ready: { Self → Type 0 };
+
+    // The hall at whose desk it works.
+    ghost hall: { Self → Rooms State Catalog };
+
     fn key(&self) -> &[u8]
         ensures { result.now ≡ (talk self.now).key };
 
     fn limits(&self) -> &Limits
         ensures { result.now ≡ (talk self.now).limits };
 
-    /// A turn begins: each waiting CONTINUE is visited.
+    /// A turn begins: each waiting CONTINUE is visited. It stays ready.
     fn visit(&mut self, link: &mut L) -> Option<End>
+        requires ready { ready self.old }
+        ensures ready { ready self.new }
+        ensures hall { hall self.new ≡ hall self.old }
         ensures talk { talk self.new ≡ talk self.old }
         ensures visited { (held : List ℕ) (greeted : Bool) → Outcome (talk self.old)
             (world_at (L.tape link.old) (work self.old) held greeted Rest) (L.tape link.new)
             (work self.new) held greeted (Visits []) 1 result };
 
-    /// A frame is taken and answered, where all visits were made.
+    /// A frame is taken and answered, where all visits were made. It stays ready.
     fn handle(&mut self, link: &mut L, frame: &Frame) -> Option<End>
+        requires ready { ready self.old }
+        ensures ready { ready self.new }
+        ensures hall { hall self.new ≡ hall self.old }
         ensures talk { talk self.new ≡ talk self.old }
         ensures handled { (rest : List ℕ) → Fits (talk self.old).limits.frame frame.now
             → Outcome (talk self.old) (world_at (L.tape link.old) (work self.old)
             (spelling frame.now ++ rest) true (Visits [])) (L.tape link.new) (work self.new) rest true
             Rest 0 result };
 
-    /// The session leaves: what is open is closed.
+    /// The session leaves: what is open is closed. It stays ready.
     fn leave(&mut self)
+        requires ready { ready self.old }
+        ensures ready { ready self.new }
+        ensures hall { hall self.new ≡ hall self.old }
         ensures clock { (work self.new).clock ≡ (work self.old).clock }
         ensures dice { (work self.new).dice ≡ (work self.old).dice }
         ensures left { (m : Mach Self.Plan) (end : AnEnd) → m.doing

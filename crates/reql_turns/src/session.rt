@@ -25,7 +25,7 @@ struct Over {
     turns: u64,
 }
 
-// Serves in at most so many turns.
+// Serves in at most so many turns, through which what handles frames stays ready.
 fn serve<H: Handler<L>, L: Link>(
     link: &mut L,
     ears: &mut Ears,
@@ -36,7 +36,10 @@ fn serve<H: Handler<L>, L: Link>(
     requires room { 0 < length buf.old }
     requires most { length buf.old ≤ 65536 }
     requires first { IsFirst (H.talk handler.old) ears.old }
+    requires ready { H.ready handler.old }
     requires books { (H.work handler.old).books ≡ no_books }
+    ensures ready { H.ready handler.new }
+    ensures hall { H.hall handler.new ≡ H.hall handler.old }
     ensures talk { H.talk handler.new ≡ H.talk handler.old }
     ensures serves { Serves (H.talk handler.old) (world_at (L.tape link.old) (H.work handler.old) []
         false Rest) turns (L.tape link.new) (H.work handler.new) result.end result.turns }
@@ -71,9 +74,12 @@ fn room(alloc: Global, key: &[u8], limit: u32) -> Option<(Ears, Vec<u8>)>
     Some((ears, buf))
 }
 
-// Serves up to an end, at which all that is open is still to be closed.
+// Serves up to an end, at which all that is open is still to be closed, and what handles frames is ready for that.
 fn converse<H: Handler<L>, L: Link>(alloc: Global, link: &mut L, handler: &mut H) -> Over
+    requires ready { H.ready handler.old }
     requires books { (H.work handler.old).books ≡ no_books }
+    ensures ready { H.ready handler.new }
+    ensures hall { H.hall handler.new ≡ H.hall handler.old }
     ensures talk { H.talk handler.new ≡ H.talk handler.old }
     ensures serves { Serves (H.talk handler.old) (world_at (L.tape link.old) (H.work handler.old) []
         false Rest) (H.talk handler.old).limits.turns (L.tape link.new) (H.work handler.new) result.end
@@ -90,15 +96,18 @@ fn converse<H: Handler<L>, L: Link>(alloc: Global, link: &mut L, handler: &mut H
 }
 
 /// Serves a session over a link, to its end: what was said and heard, and all that was done at the desk, is explained by the
-/// session machine. The link is fresh, and nothing is open yet.
+/// session machine. The link is fresh, what handles frames is ready and stays so at the desk of its hall, and nothing is open yet.
 pub fn serve_session<H: Handler<L>, L: Link>(
     alloc: Global,
     link: L,
     handler: &mut H,
 ) -> Served<L::Record>
     requires fresh { IsFresh (L.tape link) }
+    requires ready { H.ready handler.old }
     requires books { (H.work handler.old).books ≡ no_books }
-    ensures { IsServed (H.talk handler.old) (H.work handler.old) (H.work handler.new)
+    ensures ready { H.ready handler.new }
+    ensures hall { H.hall handler.new ≡ H.hall handler.old }
+    ensures served { IsServed (H.talk handler.old) (H.work handler.old) (H.work handler.new)
         (L.kept result.tape) result.end result.turns }
 {
     let mut link = link;

@@ -29,7 +29,7 @@ fn receive_more<L: Link>(link: &mut L, feeder: &mut Feeder, buf: &mut [u8]) -> O
 }
 
 // What a turn does after its visits, where the greeting was answered: a frame is handled where a whole one is held,
-// and else something is received.
+// and else something is received. What handles frames stays ready.
 fn go_on<H: Handler<L>, L: Link>(
     link: &mut L,
     feeder: &mut Feeder,
@@ -38,6 +38,9 @@ fn go_on<H: Handler<L>, L: Link>(
 ) -> Option<End>
     requires room { 0 < length buf.old }
     requires most { length buf.old ≤ 65536 }
+    requires ready { H.ready handler.old }
+    ensures ready { H.ready handler.new }
+    ensures hall { H.hall handler.new ≡ H.hall handler.old }
     ensures talk { H.talk handler.new ≡ H.talk handler.old }
     ensures limit { feeder.new.limit ≡ feeder.old.limit }
     ensures goes { feeder.old.limit ≡ (H.talk handler.old).limits.frame → Outcome (H.talk handler.old)
@@ -52,7 +55,7 @@ fn go_on<H: Handler<L>, L: Link>(
     }
 }
 
-/// One turn.
+/// One turn. What handles frames stays ready.
 pub(crate) fn turn<H: Handler<L>, L: Link>(
     link: &mut L,
     ears: &mut Ears,
@@ -61,7 +64,10 @@ pub(crate) fn turn<H: Handler<L>, L: Link>(
 ) -> Option<End>
     requires room { 0 < length buf.old }
     requires most { length buf.old ≤ 65536 }
+    requires ready { H.ready handler.old }
     requires hearing { IsHearing (H.talk handler.old) (H.work handler.old) ears.old }
+    ensures ready { H.ready handler.new }
+    ensures hall { H.hall handler.new ≡ H.hall handler.old }
     ensures talk { H.talk handler.new ≡ H.talk handler.old }
     ensures turned { TurnFrom (H.talk handler.old) (L.tape link.old) (H.work handler.old) ears.old
         (L.tape link.new) (H.work handler.new) ears.new result }

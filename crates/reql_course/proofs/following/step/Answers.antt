@@ -13,7 +13,7 @@ pub returns-in-RunSlot-clause-steps : goal.returns-in-RunSlot-clause-steps
 returns-in-RunSlot-clause-steps g c = c.on_run.ensures.steps (g.T.Clock.told c.args.clock.now) (g.D.Dice.told c.args.dice.now)
 
 pub returns-in-TellTime-clause-steps : goal.returns-in-TellTime-clause-steps
-returns-in-TellTime-clause-steps g c = c.on_time.ensures g.C.Engine.some_state c.args.desk.now (g.D.Dice.told c.args.dice.now)
+returns-in-TellTime-clause-steps g c = c.on_time.ensures.steps g.C.Engine.some_state c.args.desk.now (g.D.Dice.told c.args.dice.now)
 
 pub returns-in-Roll-clause-steps : goal.returns-in-Roll-clause-steps
-returns-in-Roll-clause-steps g c = c.on_roll.ensures g.C.Engine.some_state c.args.desk.now (g.T.Clock.told c.args.clock.now)
+returns-in-Roll-clause-steps g c = c.on_roll.ensures.steps g.C.Engine.some_state c.args.desk.now (g.T.Clock.told c.args.clock.now)

@@ -6,4 +6,6 @@ use Rattle.reql_turns.proofs.session.serve.Given as goal
 
 abbrev pub invariant-loop-used : goal.invariant-loop-used
 invariant-loop-used g l = (g.H.Handler.talk l.handler ≡ g.H.Handler.talk l.initial.handler)
+    × g.H.Handler.ready l.handler
+    × (g.H.Handler.hall l.handler ≡ g.H.Handler.hall l.initial.handler)
     × TurnsOver (g.H.Handler.talk l.initial.handler) (world_at (g.L.Link.tape l.initial.link) (g.H.Handler.work l.initial.handler) [] false Rest) (g.L.Link.tape l.link) (g.H.Handler.work l.handler) l.ears l.used
