@@ -1,0 +1,5 @@
+mod Bodies
+mod Groups
+mod Items
+mod Onward
+mod Stating

@@ -1,0 +1,4 @@
+pub mod Asking
+pub mod Items
+pub mod Follows
+pub mod State

@@ -1,0 +1,14 @@
+//! Sessions that plan ReQL: their bodies are read to requests, and each request is followed move by move
+//! to what it comes to, as `reql_told` says.
+#![tactic(auto)]
+
+mod answering;
+mod asking;
+mod course;
+mod grouping;
+mod listing;
+mod moving;
+mod planner;
+
+pub use course::QueryCourse;
+pub use planner::QueryPlanner;
