@@ -1,0 +1,16 @@
+pub mod Settled
+pub mod Short
+pub mod Below
+pub mod Kept
+pub mod Stopped
+pub mod Left
+pub mod Begun
+pub mod Visited
+pub mod Turned
+pub mod Tokens
+pub mod Batched
+pub mod Given
+pub mod Keeping
+pub mod Opened
+pub mod Ended
+pub mod Started

@@ -1,0 +1,11 @@
+use Rattle.std.proofs.Common.{refl}
+use Rattle.reql_story.specs.Requests.{Client}
+use Rattle.reql_story.specs.Bodies as texts
+use Rattle.reql_session.proofs.Begun.{refuses_quietly, refuses}
+use Rattle.reql_session.proofs.beginning.refuse_in_use.Goals as goal
+
+pub returns-then-noreply : goal.returns-then-noreply
+returns-then-noreply g c = λ k w l. refuses_quietly k _ w c.args.token c.args.noreply (Client (texts.in_use c.args.token)) c.if-noreply.true
+
+pub returns : goal.returns
+returns g c = λ k w l. refuses k _ _ w c.args.token c.args.noreply (Client (texts.in_use c.args.token)) c.tell_now.result c.if-noreply.false (c.tell_now.ensures k w (Client (texts.in_use c.args.token)) l refl c.in_use-written.ensures)

@@ -1,0 +1,14 @@
+use Rattle.std.proofs.Common.{Some, sym, subst}
+use Rattle.reql_story.specs.Requests.{Internal}
+use Rattle.reql_story.specs.Tasks.{Settled, close, only_tell}
+use Rattle.reql_talk.specs.Meant.{arms_of}
+use Rattle.reql_desk_moves.specs.Steps.{Steps}
+use Rattle.reql_shelf.specs.Kept.{books_of}
+use Rattle.reql_session.proofs.Settled.{settles_closed}
+use Rattle.reql_session.proofs.settling.settle_internal.Goals as goal
+
+pub returns-clause-settled : goal.returns-clause-settled
+returns-clause-settled g c = λ k clock dice.
+    settles_closed k g.C.Engine.some_state _ _ c.args.desk.now c.end_arms.new.desk (books_of c.args.shelf.now) (books_of c.close_if_any.new.shelf) clock dice _ (λ b. only_tell b c.args.token Internal) c.tell_internal.result
+    (subst (λ b. Steps k g.C.Engine.some_state c.args.desk.now c.end_arms.new.desk (close (books_of c.args.shelf.now) c.args.token (arms_of c.args.arms.now) Settled (Some Internal)) (only_tell b c.args.token Internal)) (sym c.close_if_any.ensures) (c.end_arms.ensures.settled k (books_of c.args.shelf.now) c.args.token (Some Internal)))
+    (λ w. c.tell_internal.ensures k w)

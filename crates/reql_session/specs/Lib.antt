@@ -1,0 +1,4 @@
+pub mod Settling
+pub mod Ending
+pub mod Batches
+pub mod Keeping

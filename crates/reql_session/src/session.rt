@@ -1,0 +1,184 @@
+// A session at its desk.
+ghost use Rattle.std.specs.Prelude.{◌≡◌, ◌≤◌, [], IfOk, IfErr, length};
+ghost use Rattle.reql_hall.specs.Rooms.{Sits};
+ghost use Rattle.reql_story.specs.Books.{no_books};
+ghost use Rattle.reql_shelf.specs.Kept.{books_of};
+ghost use Rattle.reql_session.specs.Settling.{working};
+ghost use Rattle.reql_session.specs.Keeping.{Keeps};
+
+use crate::beginning::take_up;
+use crate::leaving::leave_all;
+use crate::visits::visit_all;
+use crate::voice::Voice;
+use reql_catalog::Catalogue;
+use reql_hall::{Desk, Hall};
+use reql_law::{Limits, TableEngine};
+use reql_memory::Refused;
+use reql_outside::{Clock, Dice, Link};
+use reql_shelf::Shelf;
+use reql_story::{End, Planning};
+use reql_talk::Planner;
+use reql_turns::Handler;
+use reql_wire::Frame;
+use std::alloc::Global;
+use std::sync::Wait;
+
+/// What handles the frames of a session: it plans what they ask for, follows the plans at a desk of a hall, with a clock and
+/// dice, and keeps what is open.
+#[derive(Drop)]
+pub struct Session<
+    'a,
+    R: Wait,
+    C: TableEngine + Drop,
+    P: Planner<View = <C as TableEngine>::View>,
+    D: Dice + Drop,
+    T: Clock + Drop,
+> {
+    rt: &'a R,
+    alloc: Global,
+    hall: &'a Hall<C, Catalogue>,
+    desk: Desk<C, Catalogue>,
+    slots: u32,
+    planner: &'a P,
+    clock: T,
+    dice: D,
+    voice: Voice,
+    shelf: Shelf,
+}
+
+impl<
+    'a,
+    R: Wait,
+    C: TableEngine + Drop,
+    P: Planner<View = <C as TableEngine>::View>,
+    D: Dice + Drop,
+    T: Clock + Drop,
+> Session<'a, R, C, P, D, T> {
+    /// A session that has nothing open, at a desk of this hall, which has at least so many slots. An `Err` hands the desk back.
+    pub fn new(
+        rt: &'a R,
+        alloc: Global,
+        hall: &'a Hall<C, Catalogue>,
+        desk: Desk<C, Catalogue>,
+        slots: u32,
+        planner: &'a P,
+        clock: T,
+        dice: D,
+    ) -> Result<Self, Refused<Desk<C, Catalogue>>>
+        requires of_this_hall { Sits hall.now desk }
+        requires slots { slots ≤ length hall.now.slots }
+        ensures hall { IfOk result (λ s. s.hall ≡ hall.entry) }
+        ensures planner { IfOk result (λ s. s.planner ≡ planner.entry) }
+        ensures slots { IfOk result (λ s. s.slots ≡ slots) }
+        ensures work { IfOk result (λ s. working C.some_state s.desk (books_of s.shelf) (T.told s.clock) (D.told s.dice)
+            ≡ working C.some_state desk no_books (T.told clock) (D.told dice)) }
+        ensures desk { IfOk result (λ s. s.desk ≡ desk) }
+        ensures back { IfErr result (λ refused. refused.back ≡ desk) }
+    {
+        match Voice::new(alloc) {
+            Ok(voice) => Ok(Session {
+                rt,
+                alloc,
+                hall,
+                desk,
+                slots,
+                planner,
+                clock,
+                dice,
+                voice,
+                shelf: Shelf::new(alloc),
+            }),
+            Err(_) => Err(Refused { back: desk }),
+        }
+    }
+
+    /// Its desk, which it is done with.
+    pub fn into_desk(self) -> Desk<C, Catalogue>
+        ensures { result ≡ self.entry.desk }
+    {
+        let Session { desk, .. } = self;
+        desk
+    }
+}
+
+impl<
+    'a,
+    R: Wait,
+    C: TableEngine + Drop,
+    P: Planner<View = <C as TableEngine>::View>,
+    D: Dice + Drop,
+    T: Clock + Drop,
+    L: Link,
+> Handler<L> for Session<'a, R, C, P, D, T>
+where
+    <P as Planning>::Plan: Drop,
+    <P as Planner>::Course: Drop,
+{
+    ghost use Rattle.std.specs.Prelude.{◌≤◌, [], length};
+    ghost use Rattle.reql_hall.specs.Rooms.{Sits};
+    ghost use Rattle.reql_shelf.specs.Kept.{books_of};
+    ghost use Rattle.reql_session.specs.Settling.{working};
+    ghost use Rattle.reql_session.specs.Keeping.{Keeps};
+
+    type Plan = P::Plan;
+
+    ghost talk = { λ s. P.talk s.planner.now };
+
+    ghost work = { λ s. working C.some_state s.desk (books_of s.shelf) (T.told s.clock) (D.told s.dice) };
+
+    ghost ready = { λ s. Sits s.hall.now s.desk × (s.slots ≤ length s.hall.now.slots)
+        × Keeps (length s.hall.now.slots) [] (books_of s.shelf) };
+
+    ghost hall = { λ s. s.hall.now };
+
+    fn key(&self) -> &[u8] {
+        self.planner.key()
+    }
+
+    fn limits(&self) -> &Limits {
+        self.planner.limits()
+    }
+
+    fn visit(&mut self, link: &mut L) -> Option<End> {
+        let tokens = self.shelf.take_waiting(self.alloc);
+        visit_all::<P, R, C, L>(
+            self.rt,
+            self.alloc,
+            self.hall,
+            &mut self.desk,
+            &mut self.voice,
+            link,
+            self.planner.limits(),
+            &mut self.shelf,
+            tokens.as_slice(),
+        )
+    }
+
+    fn handle(&mut self, link: &mut L, frame: &Frame) -> Option<End> {
+        take_up(
+            self.rt,
+            self.alloc,
+            self.hall,
+            &mut self.desk,
+            self.slots,
+            &mut self.clock,
+            &mut self.dice,
+            self.planner,
+            &mut self.voice,
+            link,
+            &mut self.shelf,
+            frame.token,
+            frame.body.as_slice(),
+        )
+    }
+
+    fn leave(&mut self) {
+        leave_all::<P, R, C>(
+            self.rt,
+            self.alloc,
+            self.hall,
+            &mut self.desk,
+            self.shelf.feeds.as_slice(),
+        );
+    }
+}
