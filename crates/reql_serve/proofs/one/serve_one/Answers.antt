@@ -1,0 +1,72 @@
+use Rattle.std.proofs.Common.{◌≡◌, ◌≤◌, [], ◌∷◌, ◌++◌, length, map, All, sym, ap, subst, ◌∙◌, arith}
+use Rattle.std.specs.List.{AllZip, range_with_len}
+use Rattle.reql_shared.specs.Sight.{Object}
+use Rattle.reql_hall.specs.Rooms.{Sits, LearnsAll, histories_of, unused_desk}
+use Rattle.reql_story.specs.Books.{no_books}
+use Rattle.reql_story.specs.Tasks.{Talk}
+use Rattle.reql_talk.specs.World.{AtWork, IsServed}
+use Rattle.reql_shelf.specs.Kept.{books_of}
+use Rattle.reql_session.specs.Settling.{working}
+use Rattle.reql_serve.proofs.Desks.{one_left, alone, all_of_one, first_of, same_count, keeps_nothing}
+use Rattle.reql_serve.proofs.one.serve_one.Goals as goal
+
+-- the one desk of the hall
+pub new-requires-2-clause-of_this_hall : goal.new-requires-2-clause-of_this_hall
+new-requires-2-clause-of_this_hall g c =
+    let hall = c.in_ok-hall.hall in
+    let one : c.in_ok-hall.desks.items ≡ unused_desk hall 0 ∷ [] = c.in_ok-hall.ensures.desks ∙ ap (λ n. map (unused_desk hall) (range_with_len 0 n)) c.in_ok-hall.ensures.names.1 in
+    let left = one_left _ (unused_desk hall 0) c.in-Some.desk (sym one ∙ c.in-Some.ensures.items) in
+    subst (Sits hall) left.1 (first_of (Sits hall) (unused_desk hall 0) (subst (All (Sits hall)) one c.in_ok-hall.ensures.of_this_hall))
+
+pub serve_session-served-requires-clause-ready : goal.serve_session-served-requires-clause-ready
+serve_session-served-requires-clause-ready g c =
+    let hall = c.in_ok-hall.hall in
+    let one : c.in_ok-hall.desks.items ≡ unused_desk hall 0 ∷ [] = c.in_ok-hall.ensures.desks ∙ ap (λ n. map (unused_desk hall) (range_with_len 0 n)) c.in_ok-hall.ensures.names.1 in
+    let left = one_left _ (unused_desk hall 0) c.in-Some.desk (sym one ∙ c.in-Some.ensures.items) in
+    let s = c.in-Ok-new.session in
+    let here : s.hall.now ≡ hall = ap (λ z. z.now) c.in-Ok-new.ensures.hall in
+    let few : c.in-Ok.slots ≤ length hall.slots = omega (arith, same_count (λ (o : Object _). o.start) g.C.Engine.state hall.slots c.args.engines.items c.in_ok-hall.ensures.slots, c.len.ensures, c.args.engines.ok, c.in-Ok.ensures) in (
+      subst (λ z. Sits z s.desk) (sym here) (subst (Sits hall) (left.1 ∙ sym c.in-Ok-new.ensures.desk) (first_of (Sits hall) (unused_desk hall 0) (subst (All (Sits hall)) one c.in_ok-hall.ensures.of_this_hall))),
+      subst (λ z. s.slots ≤ length z.slots) (sym here) (subst (λ n. n ≤ length hall.slots) (sym c.in-Ok-new.ensures.slots) few),
+      keeps_nothing _ _ (ap (λ (w : AtWork). w.books) c.in-Ok-new.ensures.work),
+    )
+
+pub close-hall-requires-clause-of_this_hall : goal.close-hall-requires-clause-of_this_hall
+close-hall-requires-clause-of_this_hall g c =
+    let hall = c.in_ok-hall.hall in
+    let one : c.in_ok-hall.desks.items ≡ unused_desk hall 0 ∷ [] = c.in_ok-hall.ensures.desks ∙ ap (λ n. map (unused_desk hall) (range_with_len 0 n)) c.in_ok-hall.ensures.names.1 in
+    let left = one_left _ (unused_desk hall 0) c.in-Some.desk (sym one ∙ c.in-Some.ensures.items) in
+    let s = c.in-Ok-new.session in
+    let here : s.hall.now ≡ hall = ap (λ z. z.now) c.in-Ok-new.ensures.hall in
+    let t = c.serve_session-served.new.handler in
+    let sits : Sits hall t.desk = subst (λ z. Sits z t.desk) (c.serve_session-served.ensures.hall ∙ here) c.serve_session-served.ensures.ready.0 in
+    let back : c.push_reserved.new.self.items ≡ t.desk ∷ [] = c.push_reserved.ensures.items ∙ ap (λ z. z ++ c.into_desk.result ∷ []) left.0 ∙ ap (λ z. z ∷ []) c.into_desk.ensures in
+    subst (All (Sits hall)) (sym back) (all_of_one (Sits hall) t.desk sits)
+
+pub returns : goal.returns
+returns g c =
+    let hall = c.in_ok-hall.hall in
+    let one : c.in_ok-hall.desks.items ≡ unused_desk hall 0 ∷ [] = c.in_ok-hall.ensures.desks ∙ ap (λ n. map (unused_desk hall) (range_with_len 0 n)) c.in_ok-hall.ensures.names.1 in
+    let left = one_left _ (unused_desk hall 0) c.in-Some.desk (sym one ∙ c.in-Some.ensures.items) in
+    let s = c.in-Ok-new.session in
+    let here : s.hall.now ≡ hall = ap (λ z. z.now) c.in-Ok-new.ensures.hall in
+    let t = c.serve_session-served.new.handler in
+    let sits : Sits hall t.desk = subst (λ z. Sits z t.desk) (c.serve_session-served.ensures.hall ∙ here) c.serve_session-served.ensures.ready.0 in
+    let back : c.push_reserved.new.self.items ≡ t.desk ∷ [] = c.push_reserved.ensures.items ∙ ap (λ z. z ++ c.into_desk.result ∷ []) left.0 ∙ ap (λ z. z ∷ []) c.into_desk.ensures in
+    let talk : g.P.Planning.talk s.planner.now ≡ g.P.Planning.talk c.args.planner.now = ap (λ z. g.P.Planning.talk z.now) c.in-Ok-new.ensures.planner in
+    let work = c.in-Ok-new.ensures.work ∙ ap (λ z. working g.C.Engine.some_state z no_books (g.T.Clock.told c.args.clock) (g.D.Dice.told c.args.dice)) (sym left.1) in
+    let all = histories_of c.close-hall.result in
+    let seen = alone (λ old new. LearnsAll old new all) t.desk c.close-hall.result.desks (subst (λ z. AllZip (λ old new. LearnsAll old new all) z c.close-hall.result.desks) back c.close-hall.ensures.desks) in
+    record {
+      hall = hall;
+      opens = record { names = c.in_ok-hall.ensures.names.0; slots = c.in_ok-hall.ensures.slots };
+      desk = t.desk;
+      books = books_of t.shelf;
+      clock_after = g.T.Clock.told t.clock;
+      dice_after = g.D.Dice.told t.dice;
+      served = subst (λ (z : Talk g.row.P-Plan.Denot × AtWork). IsServed z.0 z.1 (working g.C.Engine.some_state t.desk (books_of t.shelf) (g.T.Clock.told t.clock) (g.D.Dice.told t.dice)) (g.L.Link.kept c.serve_session-served.result.tape) c.serve_session-served.result.end c.serve_session-served.result.turns) (λ i. (talk i, work i)) c.serve_session-served.ensures.served;
+      closed = c.close-hall.ensures.rooms;
+      seen = seen.0;
+      desks = seen.1;
+      learns = seen.2;
+    }

@@ -1,0 +1,37 @@
+-- What a server of one session promises.
+use Rattle.std.specs.Prelude.{◌≡◌, ℕ, ℤ, List, [], ◌∷◌, map}
+use Rattle.reql_outside.specs.Source.{Source}
+use Rattle.reql_outside.specs.Tape.{Tape}
+use Rattle.reql_shared.specs.Sight.{Object}
+use Rattle.reql_hall.specs.Rooms.{Rooms, Closed, LearnsAll, rooms_of, histories_of, unused_desk}
+use Rattle.reql_catalog.specs.declared.catalog.Catalog.{Catalog}
+use Rattle.reql_catalog.specs.declared.command.CatCmd.{CatCmd}
+use Rattle.reql_law.specs.Machine.{State}
+use Rattle.reql_law.specs.declared.command.Order.{Order}
+use Rattle.reql_story.specs.Books.{Books, no_books}
+use Rattle.reql_story.specs.Tasks.{Talk}
+use Rattle.reql_story.specs.declared.end.End.{End}
+use Rattle.reql_talk.specs.World.{IsServed}
+use Rattle.reql_desk_moves.specs.Acting.{AtDesk}
+use Rattle.reql_session.specs.Settling.{working}
+
+-- a hall with these names and these engines, of which nobody has used anything
+pub record Opens (known : Catalog) (engines : List State) (hall : Rooms State Catalog) : Type 0 where
+  pub names : hall.names.start ≡ known
+  pub slots : map (λ (o : Object State). o.start) hall.slots ≡ engines
+
+module _ {PL E NE : Type 0} (k : Talk PL) (some : State) where
+  -- One session at the desk of such a hall is explained, and at the end that desk has seen the whole histories of the hall,
+  -- whose engines are where these lead.
+  pub record ServesOne (known : Catalog) (engines : List State) (clock : Source ℤ) (dice : Source (List ℕ)) (tape : Tape) (end : End) (turns : ℕ) (left : Closed E Order State NE CatCmd Catalog) : Type 0 where
+    pub hall : Rooms State Catalog
+    pub opens : Opens known engines hall
+    pub desk : AtDesk
+    pub books : Books
+    pub clock_after : Source ℤ
+    pub dice_after : Source (List ℕ)
+    pub served : IsServed k (working some (unused_desk hall 0) no_books clock dice) (working some desk books clock_after dice_after) tape end turns
+    pub closed : rooms_of left ≡ hall
+    pub seen : AtDesk
+    pub desks : left.desks ≡ seen ∷ []
+    pub learns : LearnsAll desk seen (histories_of left)

@@ -1,0 +1,71 @@
+// One session, at the one desk of a hall.
+ghost use Rattle.std.specs.Prelude.{◌≡◌, All, IfOk, map};
+ghost use Rattle.reql_outside.specs.Tape.{IsFresh};
+ghost use Rattle.reql_catalog.specs.Machine.{catalogue_machine};
+ghost use Rattle.reql_serve.specs.Serving.{ServesOne};
+
+use reql_catalog::Catalogue;
+use reql_hall::{FinalHall, Hall};
+use reql_law::TableEngine;
+use reql_memory::Memory;
+use reql_outside::{Clock, Dice, Link};
+use reql_session::Session;
+use reql_story::Planning;
+use reql_talk::Planner;
+use reql_turns::{Served, serve_session};
+use std::alloc::Global;
+use std::sync::Wait;
+
+/// What is left of a server that served one session: how it ended, and the hall with its whole histories.
+pub struct Ended<C: TableEngine, R> {
+    pub session: Served<R>,
+    pub hall: FinalHall<C, Catalogue>,
+}
+
+/// Serves one session over a link, at the one desk of a hall of these names and engines, which nobody has used. The link is
+/// fresh. Memory where there is none to begin with; then nothing was heard or said.
+pub fn serve_one<
+    R: Wait,
+    C: TableEngine + Drop,
+    P: Planner<View = <C as TableEngine>::View>,
+    L: Link + Drop,
+    D: Dice + Drop,
+    T: Clock + Drop,
+>(
+    rt: &R,
+    alloc: Global,
+    names: Catalogue,
+    engines: Vec<C>,
+    planner: &P,
+    link: L,
+    clock: T,
+    dice: D,
+) -> Result<Ended<C, L::Record>, Memory>
+where
+    <P as Planning>::Plan: Drop,
+    <P as Planner>::Course: Drop,
+    requires names_unused { catalogue_machine.place names ≡ 0 }
+    requires slots_unused { All (λ e. C.machine.place (C.state e) ≡ 0) engines.items }
+    requires fresh { IsFresh (L.tape link) }
+    ensures { IfOk result (λ ended. ServesOne (P.talk planner.now) C.some_state names
+        (map C.state engines.items) (T.told clock) (D.told dice) (L.kept ended.session.tape) ended.session.end
+        ended.session.turns ended.hall) }
+{
+    let Ok(slots) = u32::try_from(engines.len()) else {
+        return Err(Memory);
+    };
+    let (hall, mut desks, room) = Hall::new(alloc, names, engines, 1)?;
+    let Some(desk) = desks.pop() else {
+        return Err(Memory);
+    };
+    let Ok(mut session) = Session::new(rt, alloc, &hall, desk, slots, planner, clock, dice) else {
+        return Err(Memory);
+    };
+    let served = serve_session(alloc, link, &mut session);
+    desks.push_reserved(session.into_desk());
+    let hall = hall.close(rt, desks, room);
+    Ok(Ended {
+        session: served,
+        hall,
+    })
+}
