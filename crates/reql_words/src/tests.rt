@@ -1,0 +1,138 @@
+use crate::{Command, Wanted, command_of};
+use std::alloc::Global;
+use std::test::Fail;
+
+// Words, and what they ask for, as `shown` says it.
+const CASES: [(&[&str], &str); 34] = [
+    (&[], "a command is missing"),
+    (&["--help"], "help"),
+    (&["--help", "stdio"], "wrong `stdio`"),
+    (&["--version"], "version"),
+    (&["--version", "--help"], "wrong `--help`"),
+    (&[""], "wrong ``"),
+    (&["listen", "--port", "28015"], "wrong `listen`"),
+    (&["load", "1", "2"], "wrong `load`"),
+    (&["--key", "k", "stdio"], "wrong `--key`"),
+    (&["stdio"], "stdio ``"),
+    (&["stdio", "docs"], "wrong `docs`"),
+    (&["stdio", "--help"], "wrong `--help`"),
+    (&["stdio", "--help", "--table"], "wrong `--help`"),
+    (&["stdio", "--port", "28015"], "wrong `--port`"),
+    (&["stdio", "--key"], "a key is missing"),
+    (&["stdio", "--key", ""], "stdio ``"),
+    (&["stdio", "--key", "--table"], "stdio `--table`"),
+    (&["stdio", "--key", "k", "--key"], "wrong `--key`"),
+    (&["stdio", "--key", "", "--key", "k"], "wrong `--key`"),
+    (&["stdio", "--table"], "a table is missing"),
+    (
+        &["stdio", "--table", "test.docs", "--table"],
+        "a table is missing",
+    ),
+    (&["stdio", "--table", "test.docs"], "stdio `` test/docs"),
+    (
+        &[
+            "stdio", "--table", "b.z", "--key", "k", "--table", "a.y", "--table", "b.y",
+        ],
+        "stdio `k` b/z a/y b/y",
+    ),
+    (
+        &["stdio", "--table", "-A_z.09", "--table", "-A_z.9"],
+        "stdio `` -A_z/09 -A_z/9",
+    ),
+    (
+        &[
+            "stdio", "--table", "a.b", "--table", "b.a", "--table", "a.b",
+        ],
+        "wrong `a.b`",
+    ),
+    (&["stdio", "--table", ""], "wrong ``"),
+    (&["stdio", "--table", "docs"], "wrong `docs`"),
+    (&["stdio", "--table", "."], "wrong `.`"),
+    (&["stdio", "--table", ".docs"], "wrong `.docs`"),
+    (&["stdio", "--table", "test."], "wrong `test.`"),
+    (&["stdio", "--table", "a.b.c"], "wrong `a.b.c`"),
+    (&["stdio", "--table", "a b.c"], "wrong `a b.c`"),
+    (&["stdio", "--table", "a.é"], "wrong `a.é`"),
+    (&["stdio", "--table", "--key"], "wrong `--key`"),
+];
+
+// How long the key and the name of each table are, how many tables there are, and how what is asked
+// for begins.
+const LIMITS: [(usize, usize, u32, &str); 4] = [
+    (1024, 127, 256, "stdio `nn"),
+    (1025, 127, 256, "wrong `nn"),
+    (1024, 128, 256, "wrong `0.nn"),
+    (1024, 127, 257, "wrong `256.nn"),
+];
+
+fn missing(what: Wanted) -> &'static str {
+    match what {
+        Wanted::Command => "a command is missing",
+        Wanted::Key => "a key is missing",
+        Wanted::TableName => "a table is missing",
+    }
+}
+
+fn shown(alloc: Global, command: &Command<'_>) -> Result<String, Fail> {
+    match command {
+        Command::Stdio { key, tables } => {
+            let mut text = format!(in alloc; "stdio `{key}`")?;
+            for (db, table) in tables {
+                let (db, table) = (db.as_str(), table.as_str());
+                text.push_str(&format!(in alloc; " {db}/{table}")?)?;
+            }
+            Ok(text)
+        }
+        Command::Help => Ok(String::from_str(alloc, "help")?),
+        Command::Version => Ok(String::from_str(alloc, "version")?),
+        Command::Wrong { word } => Ok(format!(in alloc; "wrong `{word}`")?),
+        Command::Missing { what } => Ok(String::from_str(alloc, missing(*what))?),
+    }
+}
+
+fn asked(alloc: Global, words: &[String]) -> Result<String, Fail> {
+    let command = command_of(alloc, words)?;
+    shown(alloc, &command)
+}
+
+fn list(alloc: Global, words: &[&str]) -> Result<Vec<String>, Fail> {
+    let mut list = Vec::new(alloc);
+    for word in words {
+        list.push(String::from_str(alloc, word)?)?;
+    }
+    Ok(list)
+}
+
+// A name of so many bytes.
+fn long(alloc: Global, bytes: usize) -> Result<String, Fail> {
+    let mut name = String::new(alloc);
+    for _ in 0..bytes {
+        name.push('n')?;
+    }
+    Ok(name)
+}
+
+// Words with a key and with so many tables, each of this name in a database of its own.
+fn many(alloc: Global, key: &str, name: &str, tables: u32) -> Result<Vec<String>, Fail> {
+    let mut words = list(alloc, &["stdio", "--key", key])?;
+    for number in 0..tables {
+        words.push(String::from_str(alloc, "--table")?)?;
+        words.push(format!(in alloc; "{number}.{name}")?)?;
+    }
+    Ok(words)
+}
+
+#[test]
+fn words_ask_for_commands_within_their_limits(rt: HostRuntime) -> Result<(), Fail> {
+    let alloc = rt.alloc();
+    for (words, expected) in CASES {
+        let words = list(alloc, words)?;
+        assert_eq!(rt; asked(alloc, &words)?.as_str(), expected);
+    }
+    for (key, name, tables, begins) in LIMITS {
+        let (key, name) = (long(alloc, key)?, long(alloc, name)?);
+        let words = many(alloc, &key, &name, tables)?;
+        assert!(rt; asked(alloc, &words)?.starts_with(begins), "{begins}");
+    }
+    Ok(())
+}
