@@ -1,8 +1,9 @@
--- One option with its value, and the others after it.
-use Rattle.std.proofs.Common.{◌≡◌, ℕ, List, ◌∷◌, map, Result, Ok, IfOk, sym, ap, subst, ◌∙◌}
-use Rattle.reql_memory.specs.declared.memory.Memory.{Memory}
-use Rattle.reql_words.specs.Words.{Said, Says, asks_options, goes_on, with_option}
-use Rattle.reql_words.specs.declared.words.Command.{Command}
+-- One option with its value, and the others after it; and a table among those that were named.
+use Rattle.std.proofs.Common.{◌≡◌, ℕ, suc, Bool, true, false, ◌||◌, ◌&&◌, not, cond, nat_lt, List, [], ◌∷◌, ◌++◌, length, map, Option, Some, Result, Ok, Err, refl, sym, ap, subst, ◌∙◌}
+use Rattle.std.specs.Borrow.{Bor}
+use Rattle.std.specs.List.{list_any}
+use Rattle.reql_words.specs.Words.{Said, SaysAll, asks_options, goes_on, is_one_more, is_pair, most_tables, named, one_more, table_in, with_option, with_table}
+use Rattle.reql_words.specs.declared.words.Refusal.{Refusal}
 
 -- two words, as a slice is taken apart
 pub two_words : {A : Type 0} (f : A → List ℕ) (xs rest more : List A) (x y : A) (w v : List ℕ) → xs ≡ x ∷ rest → rest ≡ y ∷ more → w ≡ f x → v ≡ f y
@@ -10,8 +11,38 @@ pub two_words : {A : Type 0} (f : A → List ℕ) (xs rest more : List A) (x y :
 two_words f xs rest more x y w v first then is also = cc
 
 -- what the others ask for is what all ask for
-pub after_option : (w v : List ℕ) (all ws : List (List ℕ)) (said next : Said) (r : Result Command Memory) → all ≡ w ∷ v ∷ ws → with_option w v said ≡ Ok next
-    → IfOk r (λ c. Says (asks_options ws next) c) → IfOk r (λ c. Says (asks_options all said) c)
-after_option w v all ws said next r words step says =
+pub after_option : (w v : List ℕ) (all ws : List (List ℕ)) (said next last : Said) (r : Result (Unit {0}) Refusal) → all ≡ w ∷ v ∷ ws → with_option w v said ≡ Ok next
+    → SaysAll (asks_options ws next) last r → SaysAll (asks_options all said) last r
+after_option w v all ws said next last r words step says =
     let same : asks_options all said ≡ asks_options ws next = ap (λ l. asks_options l said) words ∙ ap (λ o. goes_on o (asks_options ws)) step in
-    subst (λ a. IfOk r (λ c. Says a c)) (sym same) says
+    subst (λ a. SaysAll a last r) (sym same) says
+
+-- whether one of the images is such
+any_of : {A B : Type 0} (p : B → Bool) (f : A → B) (xs : List A) → list_any p (map f xs) ≡ list_any (λ x. p (f x)) xs
+any_of p f [] = refl
+any_of p f (x ∷ xs) = ap (λ b. p (f x) || b) (any_of p f xs)
+
+many : {A B : Type 0} (f : A → B) (xs : List A) → length (map f xs) ≡ length xs
+many f [] = refl
+many f (x ∷ xs) = ap (λ n. suc n) (many f xs)
+
+more : {A B : Type 0} (f : A → B) (xs : List A) (x : A) → map f (xs ++ x ∷ []) ≡ map f xs ++ f x ∷ []
+more f [] x = refl
+more f (y ∷ ys) x = ap (λ zs. f y ∷ zs) (more f ys x)
+
+may : (p : List ℕ × List ℕ) (xs : List (Bor (List ℕ) × Bor (List ℕ))) → (nat_lt (length (map named xs)) most_tables && not (list_any (is_pair p) (map named xs))) ≡ is_one_more p xs
+may p xs = ap (λ n. nat_lt n most_tables && not (list_any (is_pair p) (map named xs))) (many named xs) ∙ ap (λ b. nat_lt (length xs) most_tables && not b) (any_of (is_pair p) named xs)
+
+by_may : (value : List ℕ) (key : Option (List ℕ)) (p : List ℕ × List ℕ) (xs : List (Bor (List ℕ) × Bor (List ℕ))) (b : Bool) → is_one_more p xs ≡ b
+    → one_more value (record { key = key; tables = map named xs }) (Some p) ≡ cond b (Ok (record { key = key; tables = map named xs ++ p ∷ [] })) (Err value)
+by_may value key p xs b is = ap (λ c. cond c (Ok (record { key = key; tables = map named xs ++ p ∷ [] })) (Err value)) (may p xs ∙ is)
+
+-- a table that may not be named, and one that is
+pub no_more : (value : List ℕ) (key : Option (List ℕ)) (p : List ℕ × List ℕ) (xs : List (Bor (List ℕ) × Bor (List ℕ))) → table_in value ≡ Some p → is_one_more p xs ≡ false
+    → with_table value (record { key = key; tables = map named xs }) ≡ Err value
+no_more value key p xs is none = ap (λ t. one_more value (record { key = key; tables = map named xs }) t) is ∙ by_may value key p xs false none
+
+pub goes_in : (value : List ℕ) (key : Option (List ℕ)) (t : Bor (List ℕ) × Bor (List ℕ)) (xs ys : List (Bor (List ℕ) × Bor (List ℕ))) → table_in value ≡ Some (named t) → is_one_more (named t) xs ≡ true → ys ≡ xs ++ t ∷ []
+    → with_table value (record { key = key; tables = map named xs }) ≡ Ok (record { key = key; tables = map named ys })
+goes_in value key t xs ys is may put = ap (λ u. one_more value (record { key = key; tables = map named xs }) u) is ∙ by_may value key (named t) xs true may
+    ∙ ap (λ l. Ok (record { key = key; tables = l })) (sym (more named xs t) ∙ ap (λ l. map named l) (sym put))

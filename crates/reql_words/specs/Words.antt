@@ -1,14 +1,15 @@
 -- What the words of the command line ask for.
-use Rattle.std.specs.Prelude.{◌≡◌, ℕ, List, [], ◌∷◌, ◌++◌, length, Option, Some, None, option_map, is_none, unwrap_or, Result, Ok, Err, Bool, ◌&&◌, ◌==◌, not, nat_le, nat_lt, cond, codes}
+use Rattle.std.specs.Prelude.{◌≡◌, ℕ, List, [], ◌∷◌, ◌++◌, length, Option, Some, None, option_map, is_none, unwrap_or, Result, Ok, Err, Bool, ◌&&◌, ◌==◌, not, nat_le, nat_lt, cond, codes, map}
+use Rattle.std.specs.Borrow.{Bor}
 use Rattle.std.specs.List.{list_any, before_first, after_first}
 use Rattle.std.specs.Str.{bytes_eq}
 use Rattle.reql_wire.specs.Greeting.{longest_key}
 use Rattle.reql_catalog.specs.Catalog.{is_name}
 use Rattle.reql_words.specs.declared.options.Options.{Options}
-use Rattle.reql_words.specs.declared.options.Step.{Step}
-use Rattle.reql_words.specs.declared.options.Step.TheVariants as steps
 use Rattle.reql_words.specs.declared.words.Command.{Command}
 use Rattle.reql_words.specs.declared.words.Command.TheVariants as says
+use Rattle.reql_words.specs.declared.words.Refusal.{Refusal}
+use Rattle.reql_words.specs.declared.words.Refusal.TheVariants as refuses
 use Rattle.reql_words.specs.declared.words.Wanted.{Wanted}
 use Rattle.reql_words.specs.declared.words.Wanted.TheVariants as wanted
 
@@ -96,18 +97,34 @@ asks (w ∷ ws) =
     (cond (bytes_eq w (codes "--help")) (ends_in Help ws)
     (cond (bytes_eq w (codes "--version")) (ends_in Version ws) (Wrong w)))
 
--- a command says what the words ask for
+-- a table as a command and the options hold it
+abbrev pub named : Bor (List ℕ) × Bor (List ℕ) → List ℕ × List ℕ
+named t = (t.0.now, t.1.now)
+
+-- whether a table may be named beside these
+abbrev pub is_one_more : List ℕ × List ℕ → List (Bor (List ℕ) × Bor (List ℕ)) → Bool
+is_one_more p tables = nat_lt (length tables) most_tables && not (list_any (λ t. is_pair p (named t)) tables)
+
+-- a refusal, and a command, say what the words ask for
+abbrev pub Refuses : Asks → Refusal → Type 0
+Refuses a (refuses.Wrong word) = a ≡ Wrong word.now
+Refuses a (refuses.Missing what) = a ≡ Missing what
+
 abbrev pub Says : Asks → Command → Type 0
-Says a (says.Stdio key tables) = a ≡ Stdio key.now tables.items
+Says a (says.Stdio key tables) = a ≡ Stdio key.now (map named tables.items)
 Says a says.Help = a ≡ Help
 Says a says.Version = a ≡ Version
-Says a (says.Wrong word) = a ≡ Wrong word.now
-Says a (says.Missing what) = a ≡ Missing what
+Says a (says.Refused refusal) = Refuses a refusal
 
--- what the program holds of the options, and what it makes of one more
+-- what the program holds of the options, and what it makes of one more: they go on, or a word is wrong
 abbrev pub said_of : Options → Said
-said_of o = record { key = option_map (λ k. k.now) o.key; tables = o.tables.items }
+said_of o = record { key = option_map (λ k. k.now) o.key; tables = map named o.tables.items }
 
-abbrev pub Steps : Result Said (List ℕ) → Step → Type 0
-Steps a (steps.On options) = a ≡ Ok (said_of options)
-Steps a (steps.Wrong word) = a ≡ Err word.now
+abbrev pub Steps : Result Said (List ℕ) → Said → Result (Unit {0}) (Bor (List ℕ)) → Type 0
+Steps a said (Ok u) = a ≡ Ok said
+Steps a said (Err word) = a ≡ Err word.now
+
+-- and of all that are left
+abbrev pub SaysAll : Asks → Said → Result (Unit {0}) Refusal → Type 0
+SaysAll a said (Ok u) = a ≡ serves said
+SaysAll a said (Err refusal) = Refuses a refusal

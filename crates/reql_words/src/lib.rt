@@ -7,4 +7,5 @@ mod tables;
 mod tests;
 mod words;
 
-pub use words::{Command, Wanted, command_of};
+pub use tables::Tables;
+pub use words::{Command, Refusal, Wanted, command_of};

@@ -1,128 +1,106 @@
 // The options of a command, one after another.
-ghost use Rattle.std.specs.Prelude.{◌≡◌, map, string_bytes, option_map, unwrap_or, [], IfOk};
-ghost use Rattle.reql_words.specs.Words.{Says, Steps, asks_options, lacks_value, said_nothing, said_of, serves, with_key, with_option, with_table};
+ghost use Rattle.std.specs.Prelude.{◌≡◌, map, string_bytes, option_map, unwrap_or, []};
+ghost use Rattle.reql_words.specs.Words.{Refuses, Says, SaysAll, Steps, asks_options, lacks_value, said_nothing, said_of, serves, with_key, with_option, with_table};
 
-use crate::tables::{has_table, table_in};
-use crate::words::{Command, Wanted};
-use reql_datum::Name;
-use reql_memory::Memory;
+use crate::tables::{Tables, is_one_more, table_in};
+use crate::words::{Command, Refusal, Wanted};
 use reql_wire::LONGEST_KEY;
-use std::alloc::Global;
-
-// The most tables that words may name: as many as a server has slots for.
-const MOST_TABLES: usize = 256;
 
 // What the options so far have said.
 #[derive(Drop)]
 pub(crate) struct Options<'a> {
     pub(crate) key: Option<&'a str>,
-    pub(crate) tables: Vec<(Name, Name)>,
-}
-
-// What one more option makes of them: they go on, or this word is wrong.
-#[derive(Drop)]
-pub(crate) enum Step<'a> {
-    On(Options<'a>),
-    Wrong(&'a str),
+    pub(crate) tables: Tables<'a>,
 }
 
 impl<'a> Options<'a> {
-    pub(crate) fn new(alloc: Global) -> Options<'a>
+    pub(crate) fn new() -> Options<'a>
         ensures { said_of result ≡ said_nothing }
     {
         Options {
             key: None,
-            tables: Vec::new(alloc),
+            tables: Tables::new(),
+        }
+    }
+
+    // All options are said.
+    pub(crate) fn served(self) -> Command<'a>
+        ensures { Says (serves (said_of self.entry)) result }
+    {
+        Command::Stdio {
+            key: key_or_none(self.key),
+            tables: self.tables,
         }
     }
 }
 
-// What the options ask for, after those that said this.
-pub(crate) fn options_of<'a>(
-    alloc: Global,
-    words: &'a [String],
-    said: Options<'a>,
-) -> Result<Command<'a>, Memory>
-    ensures { IfOk result (λ c. Says (asks_options (map string_bytes words.now) (said_of said.entry)) c) }
+// All options are said, after those that said this, or a word is refused.
+pub(crate) fn say_all<'a>(words: &'a [String], said: &mut Options<'a>) -> Result<(), Refusal<'a>>
+    ensures { SaysAll (asks_options (map string_bytes words.now) (said_of said.old)) (said_of said.new)
+        result }
 {
     let Some((word, rest)) = words.split_first() else {
-        return Ok(served(said));
+        return Ok(());
     };
     let Some((value, rest)) = rest.split_first() else {
-        return Ok(lacks_value(word.as_str(), &said));
+        return Err(lacks_value(word.as_str(), said));
     };
-    match with_option(alloc, word.as_str(), value.as_str(), said)? {
-        Step::On(said) => options_of(alloc, rest, said),
-        Step::Wrong(word) => Ok(Command::Wrong { word }),
+    match with_option(word.as_str(), value.as_str(), said) {
+        Ok(()) => say_all(rest, said),
+        Err(word) => Err(Refusal::Wrong { word }),
     }
 }
 
-fn with_option<'a>(
-    alloc: Global,
-    word: &'a str,
-    value: &'a str,
-    said: Options<'a>,
-) -> Result<Step<'a>, Memory>
-    ensures { IfOk result (λ s. Steps (with_option word.now value.now (said_of said.entry)) s) }
+// One more option is said, or this word is wrong.
+fn with_option<'a>(word: &'a str, value: &'a str, said: &mut Options<'a>) -> Result<(), &'a str>
+    ensures { Steps (with_option word.now value.now (said_of said.old)) (said_of said.new) result }
 {
     match word {
-        "--key" => Ok(with_key(word, value, said)),
-        "--table" => with_table(alloc, value, said),
-        _ => Ok(Step::Wrong(word)),
+        "--key" => with_key(word, value, said),
+        "--table" => with_table(value, said),
+        _ => Err(word),
     }
 }
 
-fn with_key<'a>(word: &'a str, value: &'a str, said: Options<'a>) -> Step<'a>
-    ensures { Steps (with_key word.now value.now (said_of said.entry)) result }
+fn with_key<'a>(word: &'a str, value: &'a str, said: &mut Options<'a>) -> Result<(), &'a str>
+    ensures { Steps (with_key word.now value.now (said_of said.old)) (said_of said.new) result }
 {
-    let Options { key, tables } = said;
-    if key.is_some() {
-        return Step::Wrong(word);
+    if said.key.is_some() {
+        return Err(word);
     }
     if value.len() > LONGEST_KEY {
-        return Step::Wrong(value);
+        return Err(value);
     }
-    let key = Some(value);
-    Step::On(Options { key, tables })
+    said.key = Some(value);
+    Ok(())
 }
 
-fn with_table<'a>(alloc: Global, value: &'a str, said: Options<'a>) -> Result<Step<'a>, Memory>
-    ensures { IfOk result (λ s. Steps (with_table value.now (said_of said.entry)) s) }
+fn with_table<'a>(value: &'a str, said: &mut Options<'a>) -> Result<(), &'a str>
+    ensures { Steps (with_table value.now (said_of said.old)) (said_of said.new) result }
 {
     let Some((db, table)) = table_in(value) else {
-        return Ok(Step::Wrong(value));
+        return Err(value);
     };
-    let Options { key, mut tables } = said;
-    if tables.len() >= MOST_TABLES || has_table(tables.as_slice(), db, table) {
-        return Ok(Step::Wrong(value));
+    if !is_one_more(said.tables.as_slice(), db, table) {
+        return Err(value);
     }
-    let table = (Name::of(alloc, db)?, Name::of(alloc, table)?);
-    tables.push(table)?;
-    Ok(Step::On(Options { key, tables }))
+    said.tables.push((db, table));
+    Ok(())
 }
 
 // The words end at an option.
-fn lacks_value<'a>(word: &'a str, said: &Options<'a>) -> Command<'a>
-    ensures { Says (lacks_value word.now (said_of said.now)) result }
+fn lacks_value<'a>(word: &'a str, said: &Options<'a>) -> Refusal<'a>
+    ensures { Refuses (lacks_value word.now (said_of said.now)) result }
 {
     if word == "--key" && said.key.is_none() {
-        return Command::Missing { what: Wanted::Key };
+        return Refusal::Missing { what: Wanted::Key };
     }
     if word == "--table" {
-        return Command::Missing {
+        return Refusal::Missing {
             what: Wanted::TableName,
         };
     }
-    Command::Wrong { word }
-}
-
-// All options are said.
-fn served<'a>(said: Options<'a>) -> Command<'a>
-    ensures { Says (serves (said_of said.entry)) result }
-{
-    let Options { key, tables } = said;
-    let key = key_or_none(key);
-    Command::Stdio { key, tables }
+    Refusal::Wrong { word }
 }
 
 fn key_or_none(key: Option<&str>) -> &str

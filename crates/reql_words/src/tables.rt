@@ -1,10 +1,13 @@
 // Tables as words name them.
 ghost use Rattle.std.specs.Prelude.{◌≡◌, option_map};
 ghost use Rattle.std.specs.List.{list_any};
-ghost use Rattle.reql_words.specs.Words.{is_pair, table_in};
+ghost use Rattle.reql_words.specs.Words.{is_one_more, is_pair, named, table_in};
 
+use arrayvec::ArrayVec;
 use reql_catalog::is_name;
-use reql_datum::Name;
+
+/// Tables as words name them, each by its database and its name: as many as a server has slots for.
+pub type Tables<'a> = ArrayVec<(&'a str, &'a str), 256>;
 
 // The database and the table in a word, before and behind its first point.
 pub(crate) fn table_in(word: &str) -> Option<(&str, &str)>
@@ -16,15 +19,22 @@ pub(crate) fn table_in(word: &str) -> Option<(&str, &str)>
     }
 }
 
-// Whether a table is among these.
-pub(crate) fn has_table(tables: &[(Name, Name)], db: &str, table: &str) -> bool
-    ensures { result ≡ list_any (is_pair (db.now, table.now)) tables.now }
+// Whether a table may be named beside these: there are fewer than may be, and it is none of them.
+pub(crate) fn is_one_more(tables: &[(&str, &str)], db: &str, table: &str) -> bool
+    ensures { result ≡ is_one_more (db.now, table.now) tables.now }
 {
-    tables.iter().any(|pair| is_pair(pair, db, table))
+    tables.len() < 256 && !has_table(tables, db, table)
 }
 
-fn is_pair(pair: &(Name, Name), db: &str, table: &str) -> bool
-    ensures { result ≡ is_pair (db.now, table.now) pair.now }
+// Whether a table is among these.
+fn has_table(tables: &[(&str, &str)], db: &str, table: &str) -> bool
+    ensures { result ≡ list_any (λ t. is_pair (db.now, table.now) (named t)) tables.now }
 {
-    pair.0.as_str() == db && pair.1.as_str() == table
+    tables.iter().any(|pair| is_pair(*pair, db, table))
+}
+
+fn is_pair(pair: (&str, &str), db: &str, table: &str) -> bool
+    ensures { result ≡ is_pair (db.now, table.now) (named pair.entry) }
+{
+    pair.0 == db && pair.1 == table
 }

@@ -1,4 +1,4 @@
-use crate::{Command, Wanted, command_of};
+use crate::{Command, Refusal, Wanted, command_of};
 use std::alloc::Global;
 use std::test::Fail;
 
@@ -77,22 +77,22 @@ fn shown(alloc: Global, command: &Command<'_>) -> Result<String, Fail> {
     match command {
         Command::Stdio { key, tables } => {
             let mut text = format!(in alloc; "stdio `{key}`")?;
-            for (db, table) in tables {
-                let (db, table) = (db.as_str(), table.as_str());
+            for (db, table) in tables.as_slice() {
                 text.push_str(&format!(in alloc; " {db}/{table}")?)?;
             }
             Ok(text)
         }
         Command::Help => Ok(String::from_str(alloc, "help")?),
         Command::Version => Ok(String::from_str(alloc, "version")?),
-        Command::Wrong { word } => Ok(format!(in alloc; "wrong `{word}`")?),
-        Command::Missing { what } => Ok(String::from_str(alloc, missing(*what))?),
+        Command::Refused(Refusal::Wrong { word }) => Ok(format!(in alloc; "wrong `{word}`")?),
+        Command::Refused(Refusal::Missing { what }) => {
+            Ok(String::from_str(alloc, missing(*what))?)
+        }
     }
 }
 
 fn asked(alloc: Global, words: &[String]) -> Result<String, Fail> {
-    let command = command_of(alloc, words)?;
-    shown(alloc, &command)
+    shown(alloc, &command_of(words))
 }
 
 fn list(alloc: Global, words: &[&str]) -> Result<Vec<String>, Fail> {

@@ -1,11 +1,9 @@
 // What the words ask for: the command that comes first.
-ghost use Rattle.std.specs.Prelude.{map, string_bytes, IfOk};
-ghost use Rattle.reql_words.specs.Words.{Asks, Says, asks, ends_in};
+ghost use Rattle.std.specs.Prelude.{map, string_bytes};
+ghost use Rattle.reql_words.specs.Words.{Asks, Says, asks, asks_options, ends_in, said_nothing};
 
-use crate::options::{Options, options_of};
-use reql_datum::Name;
-use reql_memory::Memory;
-use std::alloc::Global;
+use crate::options::{Options, say_all};
+use crate::tables::Tables;
 
 /// What is wanted where the words end too early.
 #[derive(Clone, Copy, Debug, PartialEq, Eq)]
@@ -17,44 +15,55 @@ pub enum Wanted {
     TableName,
 }
 
+/// Why words ask for nothing.
+#[derive(Clone, Copy, Debug, PartialEq, Eq)]
+pub enum Refusal<'a> {
+    /// This word, the first such, can't stand where it does.
+    Wrong { word: &'a str },
+    /// The words end where this is wanted.
+    Missing { what: Wanted },
+}
+
 /// What the words ask for.
 #[derive(Drop)]
 pub enum Command<'a> {
     /// Serve one session over standard input and output to who has this authorization key, with
     /// these tables: each once, by its database and its name, in the order of the words.
-    Stdio {
-        key: &'a str,
-        tables: Vec<(Name, Name)>,
-    },
+    Stdio { key: &'a str, tables: Tables<'a> },
     /// Say how to use the program.
     Help,
     /// Say which version of the program this is.
     Version,
-    /// This word, the first such, can't stand where it does.
-    Wrong {
-        word: &'a str,
-    },
-    /// The words end where this is wanted.
-    Missing {
-        what: Wanted,
-    },
+    /// Nothing: the words are none that ask for something.
+    Refused(Refusal<'a>),
 }
 
 /// What the words ask for: `stdio [--key K] [--table DB.NAME]..`, its options in any order, `--help`
-/// or `--version`, each alone. A key has at most 1024 bytes, and there are at most 256 tables.
-pub fn command_of<'a>(alloc: Global, words: &'a [String]) -> Result<Command<'a>, Memory>
-    ensures { IfOk result (λ c. Says (asks (map string_bytes words.now)) c) }
+/// or `--version`, each alone. A key has at most 1024 bytes, and there are at most 256 tables. It takes no memory.
+pub fn command_of(words: &[String]) -> Command<'_>
+    ensures { Says (asks (map string_bytes words.now)) result }
 {
     let Some((first, rest)) = words.split_first() else {
-        return Ok(Command::Missing {
+        return Command::Refused(Refusal::Missing {
             what: Wanted::Command,
         });
     };
     match first.as_str() {
-        "stdio" => options_of(alloc, rest, Options::new(alloc)),
-        "--help" => Ok(ended(Command::Help, rest)),
-        "--version" => Ok(ended(Command::Version, rest)),
-        word => Ok(Command::Wrong { word }),
+        "stdio" => stdio_of(rest),
+        "--help" => ended(Command::Help, rest),
+        "--version" => ended(Command::Version, rest),
+        word => Command::Refused(Refusal::Wrong { word }),
+    }
+}
+
+// What the options of `stdio` ask for.
+fn stdio_of(words: &[String]) -> Command<'_>
+    ensures { Says (asks_options (map string_bytes words.now) said_nothing) result }
+{
+    let mut said = Options::new();
+    match say_all(words, &mut said) {
+        Ok(()) => said.served(),
+        Err(refusal) => Command::Refused(refusal),
     }
 }
 
@@ -65,8 +74,8 @@ fn ended<'a>(command: Command<'a>, rest: &'a [String]) -> Command<'a>
 {
     match rest.first() {
         None => command,
-        Some(word) => Command::Wrong {
+        Some(word) => Command::Refused(Refusal::Wrong {
             word: word.as_str(),
-        },
+        }),
     }
 }
