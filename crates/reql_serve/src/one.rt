@@ -17,6 +17,7 @@ use std::alloc::Global;
 use std::sync::Wait;
 
 /// What is left of a server that served one session: how it ended, and the hall with its whole histories.
+#[derive(Drop)]
 pub struct Ended<C: TableEngine, R> {
     pub session: Served<R>,
     pub hall: FinalHall<C, Catalogue>,

@@ -1,53 +1,53 @@
 //! `reqld`: a document database server that speaks RethinkDB's client protocol.
 //!
-//! Today it serves one session over standard input and output, on one table that is empty at first.
-//! `run` is the whole server; `main` hands it the process's words and streams.
+//! It serves one session over standard input and output. `reql_run::run` is the whole server; `main` hands it the
+//! process's words and devices.
 #![tactic(auto)]
 
-mod ending;
-mod fields;
-mod greeting;
-mod query;
-mod request;
-mod session;
-mod setting;
-mod spare;
-mod summary;
-#[cfg(test)]
-mod tests;
-mod top;
-mod words;
-
-use reql_outside::StdLink;
+use reql_outside::{OsClock, OsDice, StdLink};
+use reql_run::run;
+use reql_words::{Command, Refusal, Wanted, command_of};
 use std::env;
 use std::io::{self, ErrorKind};
 use std::process::ExitCode;
-use top::run;
-use words::{Command, Wanted, command_of};
 
 const USAGE: &str = "\
-usage: reqld stdio [--key KEY] --table test.NAME
+reqld: a document database server that speaks RethinkDB's client protocol
 
-Serves one session of RethinkDB's client protocol over standard input and output, on the table NAME
-of the database test, which is empty at first. NAME is 1 to 127 characters of A-Z, a-z, 0-9, _ and -.
-A client has to greet with the authorization key KEY, of at most 1024 bytes; without --key it is
-empty. The options come in any order, and the word after an option is its value.
+usage:
+  reqld stdio [--key KEY] [--table DB.NAME]..   serves one session over standard input and output
+  reqld --help                                  says this
+  reqld --version                               says which version this is
 
-  reqld --help       says this
-  reqld --version    says which version this is
+options of stdio, in any order; the word after an option is its value:
+  --key KEY        a client has to greet with this authorization key, of at most 1024 bytes;
+                   without it the key is empty
+  --table DB.NAME  this table is there from the start, empty and with the key field id, and its
+                   database; up to 256 times, each table once. DB and NAME are 1 to 127 characters
+                   of A-Z, a-z, 0-9, _ and -. The database test is always there.
 
-Status: 0 the input ended between two requests, 2 the words are wrong, 4 reading failed, 5 writing
+A session is a greeting and then requests, each a token of 8 bytes, a length of 4 and a body in
+JSON, numbers little endian. An example to paste, which adds two numbers:
+
+  { printf '\\x20\\x2d\\x0c\\x40\\0\\0\\0\\0\\xc7\\x70\\x69\\x7e'
+    printf '\\1\\0\\0\\0\\0\\0\\0\\0\\x0e\\0\\0\\0[1,[24,[1,2]]]'; } | reqld stdio
+
+limits: a request of 67108864 bytes, an answer of 268435456, 256 tables over the life of the
+server, 1024 open feeds of a table, 1024 open cursors and feeds of a session.
+
+status: 0 the input ended between two requests, 2 the words are wrong, 4 reading failed, 5 writing
 failed, 6 the input ended within a greeting or a request, 7 the greeting was refused, 8 out of
 memory, 9 a request was too long.
 ";
+
+const RIGHT: &str = "reqld stdio [--key KEY] [--table DB.NAME].., --help or --version";
 
 // What is wanted where the words end too early, as a message says it.
 fn wanted(what: Wanted) -> &'static str {
     match what {
         Wanted::Command => "a command",
         Wanted::Key => "a key after --key",
-        Wanted::TableOption => "the option --table",
-        Wanted::TableName => "a table, test.NAME, after --table",
+        Wanted::TableName => "a table, DB.NAME, after --table",
     }
 }
 
@@ -71,16 +71,15 @@ fn unread(rt: &HostRuntime, kind: ErrorKind) -> ExitCode {
 }
 
 // Says on standard error why the words are wrong. A message that can't be written is let go.
-fn complain(rt: &HostRuntime, command: Command<'_>) -> ExitCode {
-    let _ = match command {
-        Command::Wrong { word } => {
-            eprintln!(rt; "reqld: unexpected word `{word}`; reqld --help says how to use it")
+fn complain(rt: &HostRuntime, refusal: Refusal<'_>) -> ExitCode {
+    let _ = match refusal {
+        Refusal::Wrong { word } => {
+            eprintln!(rt; "reqld: unexpected word `{word}`; right would be: {RIGHT}")
         }
-        Command::Missing { what } => {
+        Refusal::Missing { what } => {
             let what = wanted(what);
-            eprintln!(rt; "reqld: {what} is missing; reqld --help says how to use it")
+            eprintln!(rt; "reqld: {what} is missing; right would be: {RIGHT}")
         }
-        _ => Ok(()),
     };
     ExitCode::from(2)
 }
@@ -92,10 +91,14 @@ fn main(rt: HostRuntime) -> ExitCode {
         Err(error) => return unread(&rt, error.kind()),
     };
     match command_of(&words) {
-        Command::Serve { .. } => ExitCode::from(run(alloc, &words, StdLink::new(rt)).status),
         Command::Help => printed(print!(rt; "{USAGE}")),
         Command::Version => printed(println!(rt; "reqld 0.1.0")),
-        wrong => complain(&rt, wrong),
+        Command::Refused(refusal) => complain(&rt, refusal),
+        Command::Stdio { .. } => {
+            let (dice, clock) = (OsDice::new(rt), OsClock::new(rt));
+            let outcome = run(&rt, alloc, &words, StdLink::new(rt), dice, clock);
+            ExitCode::from(outcome.status)
+        }
     }
 }
 

@@ -1,0 +1,9 @@
+//! The server as one call: words and devices in, sessions served, and a status out.
+#![tactic(auto)]
+
+mod opening;
+mod outcome;
+mod serving;
+
+pub use outcome::{Core, Outcome};
+pub use serving::run;

@@ -1,0 +1,39 @@
+// What the server leaves.
+ghost use Rattle.std.specs.Prelude.{◌≡◌};
+ghost use Rattle.reql_run.specs.Endings.{status_of};
+
+use reql_core::TableCore;
+use reql_open_feed::OpenFeed;
+use reql_serve::Ended;
+use reql_story::End;
+
+/// The engine of each table: every kind of feed may be open on it.
+pub type Core = TableCore<OpenFeed>;
+
+/// How the server ended.
+#[derive(Drop)]
+pub struct Outcome<R> {
+    /// 0: the input ended between two requests. 2: the words ask for no session. 4, 5: a receive, a
+    /// send failed. 6: the input ended within a greeting or a request. 7: the greeting was refused.
+    /// 8: memory was wanted before the greeting was answered, or for bytes that came. 9: a request
+    /// was too long, or all turns were used up.
+    pub status: u8,
+    /// The session, and the hall with its whole histories. None with the status 2, and where memory
+    /// was wanted before anything was heard or said.
+    pub ended: Option<Ended<Core, R>>,
+}
+
+// The status of a server whose one session ended so.
+pub(crate) fn status_of(end: End) -> u8
+    ensures { result ≡ status_of end }
+{
+    match end {
+        End::Closed => 0,
+        End::ReadFault => 4,
+        End::WriteFault => 5,
+        End::Cut { .. } => 6,
+        End::Refused(_) => 7,
+        End::Memory => 8,
+        End::TooLong { .. } | End::Worn => 9,
+    }
+}

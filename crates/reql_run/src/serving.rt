@@ -1,0 +1,92 @@
+// The whole server, over the devices that it is handed.
+ghost use Rattle.std.specs.Prelude.{◌≡◌, map, string_bytes, IfOk, MatchOption};
+ghost use Rattle.reql_outside.specs.Tape.{IsFresh};
+ghost use Rattle.reql_words.specs.Words.{asks, named};
+ghost use Rattle.reql_told.specs.Laws.{AllInOrder, AllFramesHandled, AllFeedsHold, PlansAreTold};
+ghost use Rattle.reql_told.specs.Refusing.{FirstRefusal, ShapeRefusal};
+ghost use Rattle.reql_run.specs.Running.{IsServed, Serves, Unserved};
+
+use crate::opening::{engines, names_of};
+use crate::outcome::{Core, Outcome, status_of};
+use reql_catalog::Catalogue;
+use reql_law::Limits;
+use reql_memory::Memory;
+use reql_outside::{Clock, Dice, Link};
+use reql_planner::QueryPlanner;
+use reql_serve::{Ended, serve_one};
+use reql_told::{QueryPlans, first_refusal, plans_are_told, sessions_hold};
+use reql_words::{Command, command_of};
+use std::alloc::Global;
+use std::sync::Wait;
+
+// Serves one session to who has the key, with these tables from the start.
+fn serve<R: Wait, L: Link + Drop, D: Dice + Drop, T: Clock + Drop>(
+    rt: &R,
+    alloc: Global,
+    key: &str,
+    tables: &[(&str, &str)],
+    stdio: L,
+    dice: D,
+    clock: T,
+) -> Result<Ended<Core, L::Record>, Memory>
+    requires fresh { IsFresh (L.tape stdio) }
+    ensures { IfOk result (λ ended. IsServed key.now (map named tables.now) (T.told clock) (D.told dice)
+        (L.kept ended.session.tape) ended.session.end ended.session.turns ended.hall) }
+{
+    let limits = Limits::usual();
+    let tables = names_of(alloc, tables)?;
+    let names = Catalogue::new(alloc, &tables, limits.slots)?;
+    let engines = engines(alloc, &limits)?;
+    let key = key.as_bytes().to_vec(alloc)?;
+    let planner = QueryPlanner::<Core>::new(QueryPlans { key, limits });
+    serve_one(rt, alloc, names, engines, &planner, stdio, clock, dice)
+}
+
+/// Serves one session over `stdio`, with what the words ask for: `stdio [--key K] [--table DB.NAME]..`, its options in any
+/// order. K has at most 1024 bytes, and a greeting must bring it; without it the key is empty. The database `test` is
+/// there, and each table that is named, with its database and the key field `id`.
+///
+/// The link is fresh. With other words the status is 2, and nothing is heard or said. What is proved of every session of
+/// these plans, whatever its input, stands beside what this one did: its input is handled in order, every whole frame of
+/// it; every request is answered by its plan, or by the first of its refusals; and every feed that it opened folds to the
+/// value of its query.
+pub fn run<R: Wait, L: Link + Drop, D: Dice + Drop, T: Clock + Drop>(
+    rt: &R,
+    alloc: Global,
+    words: &[String],
+    stdio: L,
+    dice: D,
+    clock: T,
+) -> Outcome<L::Record>
+    requires fresh { IsFresh (L.tape stdio) }
+    ensures served { MatchOption result.ended
+        (Unserved (asks (map string_bytes words.now)) result.status)
+        (λ ended. Serves (asks (map string_bytes words.now)) result.status (T.told clock) (D.told dice)
+        (L.kept ended.session.tape) ended.session.end ended.session.turns ended.hall) }
+    ensures in_order { AllInOrder }
+    ensures frames_handled { AllFramesHandled }
+    ensures shape { ShapeRefusal }
+    ensures first { FirstRefusal }
+    ensures plans_are_told { PlansAreTold }
+    ensures feeds_hold { AllFeedsHold }
+{
+    first_refusal();
+    plans_are_told();
+    sessions_hold();
+    let Command::Stdio { key, tables } = command_of(words) else {
+        return Outcome {
+            status: 2,
+            ended: None,
+        };
+    };
+    match serve(rt, alloc, key, tables.as_slice(), stdio, dice, clock) {
+        Ok(ended) => Outcome {
+            status: status_of(ended.session.end),
+            ended: Some(ended),
+        },
+        Err(Memory) => Outcome {
+            status: 8,
+            ended: None,
+        },
+    }
+}
