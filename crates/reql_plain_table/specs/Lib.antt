@@ -1,4 +1,0 @@
-pub mod Write
-pub mod Machine
-pub mod Rows
-pub mod Kept
