@@ -1,0 +1,42 @@
+-- The tables of a hall that nobody has used: they are good, and no feed is open on them.
+use Rattle.std.proofs.Common.{◌≡◌, ℕ, zero, suc, List, [], ◌∷◌, map, replicate, slice_index_or, refl, sym, subst}
+use Rattle.std.specs.List.Sorted.{IsStrictlySortedBy}
+use Rattle.reql_shared.specs.Sight.{Object, Sight, unused as unused_pass}
+use Rattle.reql_hall.specs.Rooms.{Rooms, pass, unused_desk}
+use Rattle.reql_catalog.specs.declared.catalog.Catalog.{Catalog}
+use Rattle.reql_law.specs.Laws.{AreGood}
+use Rattle.reql_law.specs.Machine.{State, unused}
+use Rattle.reql_law.specs.declared.command.Order.{Order}
+use Rattle.reql_desk_moves.specs.Acting.{AtDesk}
+
+abbrev desk : Rooms State Catalog → AtDesk
+desk hall = unused_desk hall 0
+
+-- where a pass on an engine begins is where the engine does
+start_at : (os : List (Object State)) (number : ℕ) (d : Sight Order State) (t : ℕ)
+    → (slice_index_or (map (λ (o : Object State). unused_pass o number) os) t d).object.start ≡ slice_index_or (map (λ (o : Object State). o.start) os) t d.object.start
+start_at [] number d t = refl
+start_at (o ∷ os) number d zero = refl
+start_at (o ∷ os) number d (suc t) = start_at os number d t
+
+one_of : (P : State → Type 0) (n : ℕ) (u d : State) (t : ℕ) → P u → P d → P (slice_index_or (replicate n u) t d)
+one_of P zero u d t pu pd = pd
+one_of P (suc n) u d zero pu pd = pu
+one_of P (suc n) u d (suc t) pu pd = one_of P n u d t pu pd
+
+pub at_start : (P : State → Type 0) (hall : Rooms State Catalog) (n most : ℕ) (t : ℕ) → map (λ (o : Object State). o.start) hall.slots ≡ replicate n (unused most)
+    → P (unused most) → P (unused 0) → P (pass (unused 0) (desk hall) t).object.start
+at_start P hall n most t is pu pd =
+    subst P (sym (start_at hall.slots 0 _ t)) (subst (λ ss. P (slice_index_or ss t (unused 0))) (sym is) (one_of P n (unused most) (unused 0) t pu pd))
+
+good : (most : ℕ) → AreGood (unused most).table.docs
+unfolding IsStrictlySortedBy
+good most = record { rising = tt; real = tt }
+
+pub are_good : (hall : Rooms State Catalog) (n most t : ℕ) → map (λ (o : Object State). o.start) hall.slots ≡ replicate n (unused most)
+    → AreGood (pass (unused 0) (desk hall) t).object.start.table.docs
+are_good hall n most t is = at_start (λ s. AreGood s.table.docs) hall n most t is (good most) (good 0)
+
+pub no_feeds : (hall : Rooms State Catalog) (n most t : ℕ) → map (λ (o : Object State). o.start) hall.slots ≡ replicate n (unused most)
+    → (pass (unused 0) (desk hall) t).object.start.table.feeds ≡ []
+no_feeds hall n most t is = at_start (λ s. s.table.feeds ≡ []) hall n most t is refl refl

@@ -1,0 +1,25 @@
+-- What the laws of explained sessions say of one session.
+use Rattle.std.specs.Prelude.{◌≡◌, ◌≤◌, ℕ, List, map}
+use Rattle.reql_table_machine.specs.Fed.{upto, Whole, takings}
+use Rattle.reql_table_machine.specs.Feeding.{fold, bare}
+use Rattle.reql_law.specs.Laws.{docs_at, known_act}
+use Rattle.reql_law.specs.Table.{feeding}
+use Rattle.reql_story.specs.Explained.{DeskShare, DeskSeen, Life, Explained, sent_of}
+use Rattle.reql_story.specs.Laws.{Handled, LeftAs, Opens}
+use Rattle.reql_story.specs.Session.{Event, acts_on, fresh}
+use Rattle.reql_story.specs.Tasks.{Talk}
+
+module _ {PL : Type 0} (k : Talk PL) {share : DeskShare} {life : Life} (e : Explained k share life) where
+  -- Nothing that was given is missing: it is a greeting, the frames that were handled, in order, and what is held; and that is
+  -- what its end leaves.
+  abbrev pub IsComplete : Type 0
+  IsComplete = Handled k fresh e.final e.events × LeftAs k life.end e.final.greeted e.final.held
+
+  -- Each feed that the session opened: the changes that were sent of it, folded over its value at the opening, give its value
+  -- at every change up to which its answers are whole.
+  abbrev pub AreFed : Type 0
+  AreFed = (seen : DeskSeen) (slot feed stamp : ℕ) (after : List Event) (o : Opens k seen share life slot feed stamp after)
+      → (n : ℕ) → stamp ≤ n → Whole ((feeding (share.slots slot).start.most).squashes o.held) n (takings feed (map known_act (acts_on slot after))) (sent_of slot feed after)
+      → fold (feeding (share.slots slot).start.most) o.held ((feeding (share.slots slot).start.most).value o.held (docs_at (share.slots slot).start (seen.slots slot) stamp))
+      (bare (feeding (share.slots slot).start.most) (upto n (sent_of slot feed after)))
+      ≡ (feeding (share.slots slot).start.most).value o.held (docs_at (share.slots slot).start (seen.slots slot) n)
