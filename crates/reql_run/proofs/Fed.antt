@@ -15,10 +15,10 @@ use Rattle.reql_run.specs.Endings.{status_of}
 use Rattle.reql_run.specs.Running.{IsServed, Serves}
 use Rattle.reql_run.proofs.Starting.{are_good, no_feeds}
 
-pub serves : {E NE : Type 0} (asked : Asks) (status : ℕ) (key : List ℕ) (tables : List (List ℕ × List ℕ)) (clock : Source ℤ) (dice : Source (List ℕ)) (tape : Tape) (end : End) (turns : ℕ) (hall : Closed E Order State NE CatCmd Catalog)
-    → AllFramesHandled → AllFeedsHold → asked ≡ Stdio key tables → status ≡ status_of end → IsServed key tables clock dice tape end turns hall
-    → Serves asked status clock dice tape end turns hall
-serves asked status key tables clock dice tape end turns hall handled holds asks ends served = record {
+pub serves : {E NE : Type 0} (state : E → State) (known : NE → Catalog) (asked : Asks) (status : ℕ) (key : List ℕ) (tables : List (List ℕ × List ℕ)) (clock : Source ℤ) (dice : Source (List ℕ)) (tape : Tape) (end : End) (turns : ℕ) (hall : Closed E Order State NE CatCmd Catalog)
+    → AllFramesHandled → AllFeedsHold → asked ≡ Stdio key tables → status ≡ status_of end → IsServed state known key tables clock dice tape end turns hall
+    → Serves state known asked status clock dice tape end turns hall
+serves state known asked status key tables clock dice tape end turns hall handled holds asks ends served = record {
   key = key;
   tables = tables;
   asks = asks;

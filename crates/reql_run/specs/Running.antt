@@ -17,18 +17,18 @@ use Rattle.reql_run.specs.Endings.{status_of}
 use Rattle.reql_run.specs.Holding.{IsComplete, AreFed}
 
 -- One session, told of plans in ReQL, at the one desk of a hall that knows these tables and whose engines are unused.
-abbrev pub IsServed : {E NE : Type 0} → List ℕ → List (List ℕ × List ℕ) → Source ℤ → Source (List ℕ) → Tape → End → ℕ → Closed E Order State NE CatCmd Catalog → Type 0
-IsServed key tables clock dice tape end turns hall =
-    ServesOne (talk key usual_limits) (unused 0) (opening tables usual_limits.slots)
+abbrev pub IsServed : {E NE : Type 0} → (E → State) → (NE → Catalog) → List ℕ → List (List ℕ × List ℕ) → Source ℤ → Source (List ℕ) → Tape → End → ℕ → Closed E Order State NE CatCmd Catalog → Type 0
+IsServed state known key tables clock dice tape end turns hall =
+    ServesOne (talk key usual_limits) (unused 0) state known (opening tables usual_limits.slots)
     (replicate usual_limits.slots (unused usual_limits.feeds)) clock dice tape end turns hall
 
 -- The words ask for a session with a key and tables, it is served, and the status is that of its end; nothing of its input
 -- is missing, and its feeds are fed.
-pub record Serves {E NE : Type 0} (asked : Asks) (status : ℕ) (clock : Source ℤ) (dice : Source (List ℕ)) (tape : Tape) (end : End) (turns : ℕ) (hall : Closed E Order State NE CatCmd Catalog) : Type 0 where
+pub record Serves {E NE : Type 0} (state : E → State) (known : NE → Catalog) (asked : Asks) (status : ℕ) (clock : Source ℤ) (dice : Source (List ℕ)) (tape : Tape) (end : End) (turns : ℕ) (hall : Closed E Order State NE CatCmd Catalog) : Type 0 where
   pub key : List ℕ
   pub tables : List (List ℕ × List ℕ)
   pub asks : asked ≡ Stdio key tables
-  pub served : IsServed key tables clock dice tape end turns hall
+  pub served : IsServed state known key tables clock dice tape end turns hall
   pub ends : status ≡ status_of end
   pub complete : IsComplete (talk key usual_limits) served.served.explained.explained
   pub fed : AreFed (talk key usual_limits) served.served.explained.explained

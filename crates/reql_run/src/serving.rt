@@ -2,19 +2,23 @@
 ghost use Rattle.std.specs.Prelude.{◌≡◌, map, string_bytes, IfOk, MatchOption};
 ghost use Rattle.reql_outside.specs.Tape.{IsFresh};
 ghost use Rattle.reql_words.specs.Words.{asks, named};
-ghost use Rattle.reql_told.specs.Laws.{AllInOrder, AllFramesHandled, AllFeedsHold, PlansAreTold};
+ghost use Rattle.reql_core.specs.Live.{state_of};
+ghost use Rattle.reql_open_feed.specs.Open.{held_in};
+ghost use Rattle.reql_law.specs.Laws.{DocsAtStamp, StampCounts};
+ghost use Rattle.reql_law.specs.Terms.{PointsShowTheirTerms, RangesShowTheirTerms, LimitsShowTheirTerms};
+ghost use Rattle.reql_told.specs.Laws.{AllInOrder, AllFramesHandled, AllFeedsHold, BatchesAgree, InfoIsServers, PlansAreTold};
 ghost use Rattle.reql_told.specs.Refusing.{FirstRefusal, ShapeRefusal};
 ghost use Rattle.reql_run.specs.Running.{IsServed, Serves, Unserved};
 
 use crate::opening::{engines, names_of};
 use crate::outcome::{Core, Outcome, status_of};
 use reql_catalog::Catalogue;
-use reql_law::Limits;
+use reql_law::{Limits, feeds_show_their_terms, table_laws};
 use reql_memory::Memory;
 use reql_outside::{Clock, Dice, Link};
 use reql_planner::QueryPlanner;
 use reql_serve::{Ended, serve_one};
-use reql_told::{QueryPlans, first_refusal, plans_are_told, sessions_hold};
+use reql_told::{QueryPlans, first_refusal, plans_are_told, server_is_told, sessions_hold};
 use reql_words::{Command, command_of};
 use std::alloc::Global;
 use std::sync::Wait;
@@ -30,7 +34,7 @@ fn serve<R: Wait, L: Link + Drop, D: Dice + Drop, T: Clock + Drop>(
     clock: T,
 ) -> Result<Ended<Core, L::Record>, Memory>
     requires fresh { IsFresh (L.tape stdio) }
-    ensures { IfOk result (λ ended. IsServed key.now (map named tables.now) (T.told clock) (D.told dice)
+    ensures { IfOk result (λ ended. IsServed (λ c. state_of held_in c.live) (λ n. n) key.now (map named tables.now) (T.told clock) (D.told dice)
         (L.kept ended.session.tape) ended.session.end ended.session.turns ended.hall) }
 {
     let limits = Limits::usual();
@@ -61,18 +65,28 @@ pub fn run<R: Wait, L: Link + Drop, D: Dice + Drop, T: Clock + Drop>(
     requires fresh { IsFresh (L.tape stdio) }
     ensures served { MatchOption result.ended
         (Unserved (asks (map string_bytes words.now)) result.status)
-        (λ ended. Serves (asks (map string_bytes words.now)) result.status (T.told clock) (D.told dice)
+        (λ ended. Serves (λ c. state_of held_in c.live) (λ n. n) (asks (map string_bytes words.now)) result.status (T.told clock) (D.told dice)
         (L.kept ended.session.tape) ended.session.end ended.session.turns ended.hall) }
     ensures in_order { AllInOrder }
     ensures frames_handled { AllFramesHandled }
     ensures shape { ShapeRefusal }
     ensures first { FirstRefusal }
     ensures plans_are_told { PlansAreTold }
+    ensures batches { BatchesAgree }
+    ensures server { InfoIsServers }
     ensures feeds_hold { AllFeedsHold }
+    ensures documents { DocsAtStamp }
+    ensures stamps { StampCounts }
+    ensures points { PointsShowTheirTerms }
+    ensures ranges { RangesShowTheirTerms }
+    ensures limits { LimitsShowTheirTerms }
 {
     first_refusal();
     plans_are_told();
+    server_is_told();
     sessions_hold();
+    table_laws();
+    feeds_show_their_terms();
     let Command::Stdio { key, tables } = command_of(words) else {
         return Outcome {
             status: 2,

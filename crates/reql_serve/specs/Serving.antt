@@ -1,12 +1,15 @@
 -- What a server of one session promises.
-use Rattle.std.specs.Prelude.{◌≡◌, ℕ, ℤ, List, [], ◌∷◌, map}
+use Rattle.std.specs.Prelude.{◌≡◌, ℕ, ℤ, List, [], ◌∷◌, map, All}
 use Rattle.reql_outside.specs.Source.{Source}
 use Rattle.reql_outside.specs.Tape.{Tape}
-use Rattle.reql_shared.specs.Sight.{Object}
+use Rattle.reql_shared.specs.History.{AllBelow}
+use Rattle.reql_shared.specs.Machine.{replay}
+use Rattle.reql_shared.specs.Sight.{Object, Closing}
 use Rattle.reql_hall.specs.Rooms.{Rooms, Closed, LearnsAll, rooms_of, histories_of, unused_desk}
+use Rattle.reql_catalog.specs.Machine.{catalogue_machine}
 use Rattle.reql_catalog.specs.declared.catalog.Catalog.{Catalog}
 use Rattle.reql_catalog.specs.declared.command.CatCmd.{CatCmd}
-use Rattle.reql_law.specs.Machine.{State}
+use Rattle.reql_law.specs.Machine.{State, machine}
 use Rattle.reql_law.specs.declared.command.Order.{Order}
 use Rattle.reql_story.specs.Books.{Books, no_books}
 use Rattle.reql_story.specs.Tasks.{Talk}
@@ -15,17 +18,26 @@ use Rattle.reql_talk.specs.World.{IsServed}
 use Rattle.reql_desk_moves.specs.Acting.{AtDesk}
 use Rattle.reql_session.specs.Settling.{working}
 
--- a hall with these names and these engines, of which nobody has used anything
+-- a hall with these names and these engines, of which nobody has used anything, and with one desk
 pub record Opens (known : Catalog) (engines : List State) (hall : Rooms State Catalog) : Type 0 where
   pub names : hall.names.start ≡ known
   pub slots : map (λ (o : Object State). o.start) hall.slots ≡ engines
+  pub names_alone : hall.names.passes ≡ 1
+  pub alone : All (λ (o : Object State). o.passes ≡ 1) hall.slots
 
-module _ {PL E NE : Type 0} (k : Talk PL) (some : State) where
+-- a hall that is closed: its names and its engines are where its histories lead, and each entry is of one of its desks
+pub record IsLedTo {E NE : Type 0} (state : E → State) (known : NE → Catalog) (left : Closed E Order State NE CatCmd Catalog) : Type 0 where
+  pub names : known left.names.engine ≡ replay catalogue_machine left.names.object.start left.names.history
+  pub slots : All (λ (f : Closing E Order State). state f.engine ≡ replay machine f.object.start f.history) left.slots
+  pub names_of_desks : AllBelow left.names.object.passes left.names.history
+  pub of_desks : All (λ (f : Closing E Order State). AllBelow f.object.passes f.history) left.slots
+
+module _ {PL E NE : Type 0} (k : Talk PL) (some : State) (state : E → State) (known : NE → Catalog) where
   -- One session at the desk of such a hall is explained, and at the end that desk has seen the whole histories of the hall,
-  -- whose engines are where these lead.
-  pub record ServesOne (known : Catalog) (engines : List State) (clock : Source ℤ) (dice : Source (List ℕ)) (tape : Tape) (end : End) (turns : ℕ) (left : Closed E Order State NE CatCmd Catalog) : Type 0 where
+  -- whose names and engines are where these lead, and in which nobody else has an entry.
+  pub record ServesOne (names : Catalog) (engines : List State) (clock : Source ℤ) (dice : Source (List ℕ)) (tape : Tape) (end : End) (turns : ℕ) (left : Closed E Order State NE CatCmd Catalog) : Type 0 where
     pub hall : Rooms State Catalog
-    pub opens : Opens known engines hall
+    pub opens : Opens names engines hall
     pub desk : AtDesk
     pub books : Books
     pub clock_after : Source ℤ
@@ -35,3 +47,4 @@ module _ {PL E NE : Type 0} (k : Talk PL) (some : State) where
     pub seen : AtDesk
     pub desks : left.desks ≡ seen ∷ []
     pub learns : LearnsAll desk seen (histories_of left)
+    pub led : IsLedTo state known left

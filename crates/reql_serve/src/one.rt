@@ -48,7 +48,7 @@ where
     requires names_unused { catalogue_machine.place names ≡ 0 }
     requires slots_unused { All (λ e. C.machine.place (C.state e) ≡ 0) engines.items }
     requires fresh { IsFresh (L.tape link) }
-    ensures { IfOk result (λ ended. ServesOne (P.talk planner.now) C.some_state names
+    ensures { IfOk result (λ ended. ServesOne (P.talk planner.now) C.some_state C.state (λ n. n) names
         (map C.state engines.items) (T.told clock) (D.told dice) (L.kept ended.session.tape) ended.session.end
         ended.session.turns ended.hall) }
 {

@@ -1,7 +1,13 @@
 use Rattle.std.proofs.Common.{◌≡◌, ◌≤◌, [], ◌∷◌, ◌++◌, length, map, All, sym, ap, subst, ◌∙◌, arith}
 use Rattle.std.specs.List.{AllZip, range_with_len}
-use Rattle.reql_shared.specs.Sight.{Object}
-use Rattle.reql_hall.specs.Rooms.{Sits, LearnsAll, histories_of, unused_desk}
+use Rattle.reql_shared.specs.History.{AllBelow}
+use Rattle.reql_shared.specs.Machine.{replay}
+use Rattle.reql_shared.specs.Sight.{Object, Closing}
+use Rattle.reql_catalog.specs.Machine.{catalogue_machine}
+use Rattle.reql_catalog.specs.declared.catalog.Catalog.{Catalog}
+use Rattle.reql_law.specs.Machine.{State}
+use Rattle.reql_law.specs.declared.command.Order.{Order}
+use Rattle.reql_hall.specs.Rooms.{Rooms, Sits, LearnsAll, histories_of, unused_desk}
 use Rattle.reql_story.specs.Books.{no_books}
 use Rattle.reql_story.specs.Tasks.{Talk}
 use Rattle.reql_talk.specs.World.{AtWork, IsServed}
@@ -56,10 +62,11 @@ returns g c =
     let talk : g.P.Planning.talk s.planner.now ≡ g.P.Planning.talk c.args.planner.now = ap (λ z. g.P.Planning.talk z.now) c.in-Ok-new.ensures.planner in
     let work = c.in-Ok-new.ensures.work ∙ ap (λ z. working g.C.Engine.some_state z no_books (g.T.Clock.told c.args.clock) (g.D.Dice.told c.args.dice)) (sym left.1) in
     let all = histories_of c.close-hall.result in
+    let rooms : c.close-hall.result.names.object ≡ hall.names = ap (λ (z : Rooms State Catalog). z.names) c.close-hall.ensures.rooms in
     let seen = alone (λ old new. LearnsAll old new all) t.desk c.close-hall.result.desks (subst (λ z. AllZip (λ old new. LearnsAll old new all) z c.close-hall.result.desks) back c.close-hall.ensures.desks) in
     record {
       hall = hall;
-      opens = record { names = c.in_ok-hall.ensures.names.0; slots = c.in_ok-hall.ensures.slots };
+      opens = record { names = c.in_ok-hall.ensures.names.0; slots = c.in_ok-hall.ensures.slots; names_alone = c.in_ok-hall.ensures.names.1; alone = c.in_ok-hall.ensures.passes };
       desk = t.desk;
       books = books_of t.shelf;
       clock_after = g.T.Clock.told t.clock;
@@ -69,4 +76,10 @@ returns g c =
       seen = seen.0;
       desks = seen.1;
       learns = seen.2;
+      led = record {
+        names = c.close-hall.ensures.names_state ∙ ap (λ (z : Object Catalog). replay catalogue_machine z.start c.close-hall.result.names.history) (sym rooms);
+        slots = subst (λ m. All (λ (f : Closing g.row.C.Denot Order State). g.C.Engine.state f.engine ≡ replay m f.object.start f.history) c.close-hall.result.slots) g.met.C.TableEngine.is_machine c.close-hall.ensures.states;
+        names_of_desks = subst (λ (z : Object Catalog). AllBelow z.passes c.close-hall.result.names.history) (sym rooms) c.close-hall.ensures.names_numbers;
+        of_desks = c.close-hall.ensures.numbers;
+      };
     }
