@@ -1,5 +1,5 @@
 -- The laws of explained sessions.
-use Rattle.std.specs.Prelude.{◌≡◌, ◌≤◌, ℕ, Bool, true, false, length, List, [], ◌∷◌, ◌++◌, take, flat_map, map, Some}
+use Rattle.std.specs.Prelude.{◌≡◌, ◌≤◌, ◌<◌, ◌+◌, ◌⊎◌, ℕ, Bool, true, false, length, List, [], ◌∷◌, ◌++◌, take, flat_map, map, Some}
 use Rattle.reql_datum.specs.Plain.{Plain}
 use Rattle.reql_wire.specs.Frames.{Over, spellings}
 use Rattle.reql_wire.specs.Greeting.{Greets}
@@ -39,11 +39,23 @@ pub record NoneLeft {C S : Type 0} (whole : Part C S) (parts : List (Part C S)) 
   pub marks : whole.marks ≡ flat_map (λ (p : Part C S). p.marks) parts
 
 module _ {PL : Type 0} (k : Talk PL) where
-  -- What came is a greeting, where none had come, then the frames that were handled, in order, and then what is held.
+  -- a greeting that was accepted, with what came behind it
+  pub record IsAccepted (bytes : List ℕ) : Type 0 where
+    pub behind : List ℕ
+    pub used : ℕ
+    pub greets : Greets k.key (bytes ++ behind) (greeting.Accepted used)
+    pub all : bytes ≡ take used (bytes ++ behind)
+
+  -- a greeting came and was accepted, or none came
+  abbrev pub Began : Bool → Bool → List ℕ → Type 0
+  Began before after bytes = ((bytes ≡ []) × (after ≡ before)) ⊎ ((before ≡ false) × (after ≡ true) × IsAccepted bytes)
+
+  -- What came is a greeting, where none had come and one was accepted, then the frames that were handled, in order, and then
+  -- what is held.
   pub record Handled (m n : Mach PL) (es : List Event) : Type 0 where
     pub greeting : List ℕ
     pub input : m.held ++ heard es ≡ greeting ++ (spellings (begun es) ++ n.held)
-    pub once : m.greeted ≡ true → greeting ≡ []
+    pub began : Began m.greeted n.greeted greeting
 
   abbrev pub InOrder : Type 0
   InOrder = (m n : Mach PL) (es : List Event) → Run k m es n → Handled m n es
@@ -61,6 +73,11 @@ module _ {PL : Type 0} (k : Talk PL) where
   -- every whole frame that was given was handled, in order, unless the session ended by a failed send, worn, or for want of memory
   abbrev pub FramesHandled : Type 0
   FramesHandled = (share : DeskShare) (life : Life) (e : Explained k share life) → Handled fresh e.final e.events × LeftAs life.end e.final.greeted e.final.held
+
+  -- All turns are used up only where more came, or was idle, than so many turns may take: each takes a greeting, a frame or
+  -- some bytes, is idle, or is the last.
+  abbrev pub WornLate : Type 0
+  WornLate = (share : DeskShare) (life : Life) → Explained k share life → life.end ≡ ends.Worn → k.limits.turns < ((length life.given + length life.given) + life.idles) + 2
 
   -- one more session lengthens what a desk did by its share
   abbrev pub OneMore : Type 0

@@ -1,7 +1,7 @@
 // Laws of explained sessions.
 ghost use Rattle.reql_hall.specs.Shares.{IsKept};
 ghost use Rattle.reql_story.specs.Explained.{ExplainedBy};
-ghost use Rattle.reql_story.specs.Laws.{InOrder, FramesHandled, OneMore, Learning, NothingLeft, FeedsHold};
+ghost use Rattle.reql_story.specs.Laws.{InOrder, FramesHandled, WornLate, OneMore, Learning, NothingLeft, FeedsHold};
 
 use crate::planning::Planning;
 
@@ -15,6 +15,12 @@ pub fn in_order<F: Planning>()
 /// header that is too long, or the greeting that was refused.
 pub fn frames_handled<F: Planning>()
     ensures { (f : F) → FramesHandled (F.talk f) }
+{}
+
+/// A session uses up all its turns only where what it was given, twice over, with its idle receives and two more, is above
+/// their limit: each turn takes a greeting, a frame or some bytes, is idle, or is the last.
+pub fn worn_late<F: Planning>()
+    ensures { (f : F) → WornLate (F.talk f) }
 {}
 
 /// A session that a hall explains is explained, with the same share, by each hall whose histories go on from there.

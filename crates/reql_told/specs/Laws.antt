@@ -31,6 +31,9 @@ AllInOrder = (key : List ℕ) (limits : Limits) → story.InOrder (talk key limi
 abbrev pub AllFramesHandled : Type 0
 AllFramesHandled = (key : List ℕ) (limits : Limits) → story.FramesHandled (talk key limits)
 
+abbrev pub AllWornLate : Type 0
+AllWornLate = (key : List ℕ) (limits : Limits) → story.WornLate (talk key limits)
+
 abbrev pub AllKept : Type 0
 AllKept = (key : List ℕ) (limits : Limits) → IsKept (ExplainedBy (talk key limits))
 

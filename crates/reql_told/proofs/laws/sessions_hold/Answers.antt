@@ -1,3 +1,4 @@
+use Rattle.reql_story.proofs.Counts as counts
 use Rattle.reql_story.proofs.Feeding.{session_fed}
 use Rattle.reql_story.proofs.Orders.{handled}
 use Rattle.reql_story.proofs.Rests as rests
@@ -11,6 +12,9 @@ returns-clause-in_order c = λ key limits. handled (talk key limits)
 
 pub returns-clause-frames_handled : goal.returns-clause-frames_handled
 returns-clause-frames_handled c = λ key limits. rests.frames_handled (talk key limits)
+
+pub returns-clause-worn_late : goal.returns-clause-worn_late
+returns-clause-worn_late c = λ key limits. counts.worn_late (talk key limits)
 
 pub returns-clause-kept : goal.returns-clause-kept
 returns-clause-kept c = λ key limits. upward.kept (talk key limits)
