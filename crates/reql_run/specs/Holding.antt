@@ -1,5 +1,5 @@
 -- What the laws of explained sessions say of one session.
-use Rattle.std.specs.Prelude.{◌≡◌, ◌≤◌, ℕ, List, map}
+use Rattle.std.specs.Prelude.{◌≡◌, ◌≤◌, ◌<◌, ◌+◌, ℕ, List, length, map}
 use Rattle.reql_table_machine.specs.Fed.{upto, Whole, takings}
 use Rattle.reql_table_machine.specs.Feeding.{fold, bare}
 use Rattle.reql_law.specs.Laws.{docs_at, known_act}
@@ -8,12 +8,17 @@ use Rattle.reql_story.specs.Explained.{DeskShare, DeskSeen, Life, Explained, sen
 use Rattle.reql_story.specs.Laws.{Handled, LeftAs, Opens}
 use Rattle.reql_story.specs.Session.{Event, acts_on, fresh}
 use Rattle.reql_story.specs.Tasks.{Talk}
+use Rattle.reql_story.specs.declared.end.End.TheVariants as ends
 
 module _ {PL : Type 0} (k : Talk PL) {share : DeskShare} {life : Life} (e : Explained k share life) where
   -- Nothing that was given is missing: it is a greeting, the frames that were handled, in order, and what is held; and that is
   -- what its end leaves.
   abbrev pub IsComplete : Type 0
   IsComplete = Handled k fresh e.final e.events × LeftAs k life.end e.final.greeted e.final.held
+
+  -- All its turns were used up only where more came, or was idle, than so many turns may take.
+  abbrev pub IsLate : Type 0
+  IsLate = life.end ≡ ends.Worn → k.limits.turns < ((length life.given + length life.given) + life.idles) + 2
 
   -- Each feed that the session opened: the changes that were sent of it, folded over its value at the opening, give its value
   -- at every change up to which its answers are whole.
