@@ -1,5 +1,5 @@
 -- What a sink tells of itself, and one that keeps what it took.
-use Rattle.std.specs.Prelude.{◌≡◌, ◌==◌, ℕ, Bool, true, false, List, [], ◌++◌, Option, Some, None}
+use Rattle.std.specs.Prelude.{◌≡◌, ◌==◌, ℕ, false, List, [], ◌++◌, Option, Some}
 use Rattle.std.specs.List.{list_any}
 use Rattle.reql_outside.specs.Tape.{counted, grown, IsBlank}
 use Rattle.reql_outside.specs.declared.sink.Put.{Put}

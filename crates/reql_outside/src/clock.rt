@@ -1,5 +1,5 @@
 // Clocks: the time at which a request came.
-ghost use Rattle.std.specs.Prelude.{◌≡◌, ℤ, pos};
+ghost use Rattle.std.specs.Prelude.{◌≡◌, ℤ, false, pos};
 ghost use Rattle.reql_outside.specs.Source.{Source, IsFresh, opening};
 ghost use Rattle.reql_outside.specs.Hours.{Tells, TellsOn};
 
@@ -12,15 +12,17 @@ use std::time::SystemTime;
 pub enum Told {
     /// The seconds since the beginning of 1970, in UTC.
     At(i64),
-    /// No time was to be had, and `faults` rose by one, as with no other answer.
+    /// No time was to be had, and `faults` rose by one, as with no other answer. The clock isn't sound.
     Failed,
 }
 
 /// A clock that tells whole seconds.
 ///
-/// A count of faults that stands at 2^64 - 1 counts as risen: it stays there.
+/// A count of faults that stands at 2^64 - 1 counts as risen: it stays there. So does the list of what was given, where
+/// that is told, once it has so many.
 pub trait Clock {
-    /// What the clock tells of itself: what it gave, where it tells it, and how often it failed.
+    /// What the clock tells of itself: what it gave, where it tells it, how often it failed, and whether it is sound. A
+    /// sound clock never answers Failed, and a clock is sound from its making on, or never.
     ghost told: { Self → Source ℤ };
 
     /// Tells the time.
@@ -44,8 +46,8 @@ impl Model for MemClock {
 }
 
 impl MemClock {
-    /// A clock that tells these in order; the k-th call, from 0, fails where k is in the list. It takes no
-    /// memory.
+    /// A clock that tells these in order; the k-th call, from 0, fails where k is in `fails`. It is sound
+    /// where that is empty. It takes no memory.
     pub fn new(moments: Vec<i64>, fails: Vec<u64>) -> MemClock
         ensures { result ≡ opening moments.items (pos 0) fails.items }
     {
@@ -71,7 +73,7 @@ impl Clock for MemClock {
     }
 }
 
-/// The clock of the system, which tells nothing of what it gave.
+/// The clock of the system, which tells nothing of what it gave, and isn't sound.
 #[derive(Drop)]
 pub struct OsClock {
     rt: HostRuntime,
@@ -79,12 +81,12 @@ pub struct OsClock {
 }
 
 impl Model for OsClock {
-    ghost use Rattle.std.specs.Prelude.{ℤ, None};
+    ghost use Rattle.std.specs.Prelude.{ℤ, false, None};
     ghost use Rattle.reql_outside.specs.Source.{Source};
 
     ghost Value = { Source ℤ };
 
-    ghost view = { λ c. record { gave = None; faults = c.faults } };
+    ghost view = { λ c. record { gave = None; faults = c.faults; sound = false } };
 }
 
 // The seconds since the beginning of 1970, where the clock stands behind it and they can be counted.
@@ -97,7 +99,8 @@ fn seconds_now(rt: &HostRuntime) -> Option<i64> {
 impl OsClock {
     /// The clock of this machine.
     pub fn new(rt: HostRuntime) -> OsClock
-        ensures { IsFresh result }
+        ensures fresh { IsFresh result }
+        ensures unsound { result.sound ≡ false }
     {
         OsClock { rt, faults: 0 }
     }

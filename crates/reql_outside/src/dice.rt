@@ -1,5 +1,5 @@
 // Dice: random bytes for keys that are made.
-ghost use Rattle.std.specs.Prelude.{◌≡◌, ℕ, List};
+ghost use Rattle.std.specs.Prelude.{◌≡◌, ℕ, List, false};
 ghost use Rattle.reql_outside.specs.Source.{Source, IsFresh, opening};
 ghost use Rattle.reql_outside.specs.Chance.{Rolls, RollsOn, zeros};
 
@@ -11,15 +11,17 @@ use std::random::RandomSource;
 #[derive(Clone, Copy, Debug, PartialEq, Eq)]
 pub enum Rolled {
     Bytes([u8; 16]),
-    /// No bytes were to be had, and `faults` rose by one, as with no other answer.
+    /// No bytes were to be had, and `faults` rose by one, as with no other answer. The dice aren't sound.
     Failed,
 }
 
 /// Dice that give sixteen bytes a roll.
 ///
-/// A count of faults that stands at 2^64 - 1 counts as risen: it stays there.
+/// A count of faults that stands at 2^64 - 1 counts as risen: it stays there. So does the list of what was given, where
+/// that is told, once it has so many.
 pub trait Dice {
-    /// What the dice tell of themselves: what they gave, where they tell it, and how often they failed.
+    /// What the dice tell of themselves: what they gave, where they tell it, how often they failed, and whether they are
+    /// sound. Sound dice never answer Failed, and dice are sound from their making on, or never.
     ghost told: { Self → Source (List ℕ) };
 
     /// Rolls once.
@@ -43,8 +45,8 @@ impl Model for MemDice {
 }
 
 impl MemDice {
-    /// Dice that give these in order; the k-th roll, from 0, fails where k is in the list. They take no
-    /// memory.
+    /// Dice that give these in order; the k-th roll, from 0, fails where k is in `fails`. They are sound
+    /// where that is empty. They take no memory.
     pub fn new(rolls: Vec<[u8; 16]>, fails: Vec<u64>) -> MemDice
         ensures { result ≡ opening rolls.items zeros fails.items }
     {
@@ -70,7 +72,7 @@ impl Dice for MemDice {
     }
 }
 
-/// The dice of the system, which tell nothing of what they gave.
+/// The dice of the system, which tell nothing of what they gave, and aren't sound.
 #[derive(Drop)]
 pub struct OsDice {
     rt: HostRuntime,
@@ -78,18 +80,19 @@ pub struct OsDice {
 }
 
 impl Model for OsDice {
-    ghost use Rattle.std.specs.Prelude.{ℕ, List, None};
+    ghost use Rattle.std.specs.Prelude.{ℕ, List, false, None};
     ghost use Rattle.reql_outside.specs.Source.{Source};
 
     ghost Value = { Source (List ℕ) };
 
-    ghost view = { λ d. record { gave = None; faults = d.faults } };
+    ghost view = { λ d. record { gave = None; faults = d.faults; sound = false } };
 }
 
 impl OsDice {
     /// The dice of this machine.
     pub fn new(rt: HostRuntime) -> OsDice
-        ensures { IsFresh result }
+        ensures fresh { IsFresh result }
+        ensures unsound { result.sound ≡ false }
     {
         OsDice { rt, faults: 0 }
     }

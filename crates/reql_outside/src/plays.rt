@@ -1,6 +1,6 @@
 // Lists that are played in order.
 ghost use Rattle.std.specs.Prelude.{◌≡◌, get_or};
-ghost use Rattle.reql_outside.specs.Source.{PlaysOn, opening};
+ghost use Rattle.reql_outside.specs.Source.{PlaysOn, Gives, opening, source};
 
 use std::marker::Model;
 
@@ -58,16 +58,18 @@ impl<T: Copy + Drop> Plays<T> {
 
     /// Plays the next one, or fails.
     pub(crate) fn next(&mut self) -> Option<T>
-        ensures { PlaysOn self.old self.new result }
+        ensures plays { PlaysOn self.old self.new result }
+        ensures gives { Gives (source self.old) (source self.new) result }
     {
-        let fails = self.fails.contains(&self.calls) || self.given == u64::MAX;
+        let given = self.given;
+        let fails = self.fails.contains(&self.calls);
         self.calls = self.calls.saturating_add(1);
         if fails {
             self.faults = self.faults.saturating_add(1);
             return None;
         }
-        let item = self.at(self.given);
-        self.given += 1;
+        let item = self.at(given);
+        self.given = given.saturating_add(1);
         Some(item)
     }
 }
