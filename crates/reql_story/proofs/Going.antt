@@ -135,7 +135,7 @@ module _ {PL : Type 0} (k : Talk PL) where
     plays = plays_on x y z p.events q.events p.plays q.plays;
   }
 
-  pub goes_on_from : (t u v : Tape) (x y z : Place PL) (c d : List ℤ) (a b : List (List ℕ)) (m n : ℕ) → Goes k t u x y c a m → Goes k u v y z d b n → Goes k t v x z (c ++ d) (a ++ b) (m + n)
+  pub goes_on_from : (t u v : Tape) (x y z : Place PL) (c d : List (Option ℤ)) (a b : List (Option (List ℕ))) (m n : ℕ) → Goes k t u x y c a m → Goes k u v y z d b n → Goes k t v x z (c ++ d) (a ++ b) (m + n)
   goes_on_from t u v x y z c d a b m n p q = record {
     events = p.events ++ q.events;
     said = p.said ++ q.said;
@@ -163,7 +163,7 @@ module _ {PL : Type 0} (k : Talk PL) where
     count = p.turn;
   }
 
-  pub ends_from : (t u v : Tape) (x y z : Place PL) (c d : List ℤ) (a b : List (List ℕ)) (end : End) (arms : List Arm) (m n : ℕ) → Goes k t u x y c a m → Ended k u v y z d b end arms n → Ended k t v x z (c ++ d) (a ++ b) end arms (m + n)
+  pub ends_from : (t u v : Tape) (x y z : Place PL) (c d : List (Option ℤ)) (a b : List (Option (List ℕ))) (end : End) (arms : List Arm) (m n : ℕ) → Goes k t u x y c a m → Ended k u v y z d b end arms n → Ended k t v x z (c ++ d) (a ++ b) end arms (m + n)
   ends_from t u v x y z c d a b end arms m n p q = record {
     events = p.events ++ q.events;
     said = p.said ++ q.said;
@@ -183,7 +183,7 @@ module _ {PL : Type 0} (k : Talk PL) where
   }
 
   -- the arms are closed after the end
-  pub ends_closing : (t u : Tape) (x y z : Place PL) (c : List ℤ) (a : List (List ℕ)) (end : End) (arms left : List Arm) (n : ℕ) → Ended k t u x y c a end arms n → Does k y z [] → z.now.doing ≡ Leaving left end → z.now.held ≡ y.now.held → Ended k t u x z c a end left n
+  pub ends_closing : (t u : Tape) (x y z : Place PL) (c : List (Option ℤ)) (a : List (Option (List ℕ))) (end : End) (arms left : List Arm) (n : ℕ) → Ended k t u x y c a end arms n → Does k y z [] → z.now.doing ≡ Leaving left end → z.now.held ≡ y.now.held → Ended k t u x z c a end left n
   ends_closing t u x y z c a end arms left n p q l h = record {
     events = p.events ++ q.events;
     said = p.said;
@@ -202,7 +202,7 @@ module _ {PL : Type 0} (k : Talk PL) where
   }
 
   -- a whole session
-  pub explained_by : (t u : Tape) (x y : Place PL) (c : List ℤ) (a : List (List ℕ)) (end : End) (n : ℕ) → x.now ≡ fresh → IsFresh t → Wears k.limits.turns n end → Ended k t u x y c a end [] n → IsExplained k x y u c a end n
+  pub explained_by : (t u : Tape) (x y : Place PL) (c : List (Option ℤ)) (a : List (Option (List ℕ))) (end : End) (n : ℕ) → x.now ≡ fresh → IsFresh t → Wears k.limits.turns n end → Ended k t u x y c a end [] n → IsExplained k x y u c a end n
   explained_by t u x y c a end n at f w e =
       let d : Faulty end t = faulty end t in
       record {

@@ -287,7 +287,7 @@ module _ {PL : Type 0} (k : Talk PL) where
 
   -- ---- the clock and the dice
   pub goes_clocked : (t : Tape) (x : Place PL) (back : Option (List ℕ)) (task : Task PL) (moment : Option ℤ) → x.now.doing ≡ Busy back task → Asks k task TellTime →
-      Goes k t t x (moved x (goes_on x.now back (found_more k x.now.books task (Clocked moment)))) (clocked (Clock moment ∷ [])) [] 0
+      Goes k t t x (moved x (goes_on x.now back (found_more k x.now.books task (Clocked moment)))) (moment ∷ []) [] 0
   goes_clocked t x back task moment e a = record {
     events = Clock moment ∷ [];
     said = [];
@@ -305,7 +305,7 @@ module _ {PL : Type 0} (k : Talk PL) where
   }
 
   pub goes_rolled : (t : Tape) (x : Place PL) (back : Option (List ℕ)) (task : Task PL) (bytes : Option (List ℕ)) → x.now.doing ≡ Busy back task → Asks k task Roll →
-      Goes k t t x (moved x (goes_on x.now back (found_more k x.now.books task (Rolled bytes)))) [] (rolled (Dice bytes ∷ [])) 0
+      Goes k t t x (moved x (goes_on x.now back (found_more k x.now.books task (Rolled bytes)))) [] (bytes ∷ []) 0
   goes_rolled t x back task bytes e a = record {
     events = Dice bytes ∷ [];
     said = [];

@@ -1,5 +1,5 @@
 -- When a hall explains a session, and what its feeds were sent.
-use Rattle.std.specs.Prelude.{◌≡◌, ◌≤◌, ℕ, ℤ, nat_eq, Bool, true, false, ◌&&◌, cond, List, [], ◌∷◌, ◌++◌, flat_map}
+use Rattle.std.specs.Prelude.{◌≡◌, ◌≤◌, ℕ, ℤ, nat_eq, Bool, true, false, ◌&&◌, cond, List, [], ◌∷◌, ◌++◌, flat_map, Option}
 use Rattle.std.specs.List.{AllByRecursion}
 use Rattle.reql_datum.specs.Plain.{Plain}
 use Rattle.reql_shared.specs.Acts.{Ran}
@@ -24,15 +24,15 @@ DeskShare = Share Order State CatCmd Catalog
 abbrev pub DeskSeen : Type 0
 DeskSeen = Seen Order CatCmd
 
--- What is told of a session: its input and its output, how often a receive was idle, whether its input was over, the moments
--- and the bytes that its clock and its dice told it, its turns, and its end.
+-- What is told of a session: its input and its output, how often a receive was idle, whether its input was over, what its
+-- clock and its dice answered it, a moment or bytes or that they failed, its turns, and its end.
 pub record Life : Type 0 where
   pub given : List ℕ
   pub sent : List ℕ
   pub idles : ℕ
   pub over : Bool
-  pub moments : List ℤ
-  pub rolls : List (List ℕ)
+  pub moments : List (Option ℤ)
+  pub rolls : List (Option (List ℕ))
   pub turns : ℕ
   pub end : End
 

@@ -265,19 +265,19 @@ begun_of e = []
 abbrev pub begun : List Event → List Frame
 begun es = flat_map begun_of es
 
--- the moments that were told and the bytes that were rolled; a call that failed has none
-abbrev pub clocked_of : Event → List ℤ
-clocked_of (Clock (Some moment)) = moment ∷ []
+-- what each call of the clock and of the dice answered: a moment that was told, bytes that were rolled, or that it failed
+abbrev pub clocked_of : Event → List (Option ℤ)
+clocked_of (Clock moment) = moment ∷ []
 clocked_of e = []
 
-abbrev pub clocked : List Event → List ℤ
+abbrev pub clocked : List Event → List (Option ℤ)
 clocked es = flat_map clocked_of es
 
-abbrev pub rolled_of : Event → List (List ℕ)
-rolled_of (Dice (Some bytes)) = bytes ∷ []
+abbrev pub rolled_of : Event → List (Option (List ℕ))
+rolled_of (Dice bytes) = bytes ∷ []
 rolled_of e = []
 
-abbrev pub rolled : List Event → List (List ℕ)
+abbrev pub rolled : List Event → List (Option (List ℕ))
 rolled es = flat_map rolled_of es
 
 abbrev pub acts_of : ℕ → Event → List (Act Order Told Snap Seen)

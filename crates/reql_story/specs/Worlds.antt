@@ -69,7 +69,7 @@ abbrev pub IsTold : Option (List ℕ) → List ℕ → Type 0
 IsTold None bytes = Unit {0}
 IsTold (Some told) bytes = told ≡ bytes
 
-abbrev pub life_of : List ℕ → List ℕ → ℕ → Bool → List ℤ → List (List ℕ) → ℕ → End → Life
+abbrev pub life_of : List ℕ → List ℕ → ℕ → Bool → List (Option ℤ) → List (Option (List ℕ)) → ℕ → End → Life
 life_of given sent idle is_over moments rolls turns end = record {
   given = given;
   sent = sent;
@@ -101,8 +101,8 @@ module _ {PL : Type 0} (k : Talk PL) where
     pub run : (out : List ℕ) → Run k (with_out out x.now) events (with_out (out ++ said) y.now)
     pub plays : DeskPlays x y events
 
-  -- from x to y, with n turns begun, and these moments and bytes told
-  pub record Goes (t u : Tape) (x y : Place PL) (moments : List ℤ) (rolls : List (List ℕ)) (n : ℕ) : Type 0 where
+  -- from x to y, with n turns begun, and these answers of the clock and the dice
+  pub record Goes (t u : Tape) (x y : Place PL) (moments : List (Option ℤ)) (rolls : List (Option (List ℕ))) (n : ℕ) : Type 0 where
     pub events : List Event
     pub said : List ℕ
     pub run : (out : List ℕ) → Run k (with_out out x.now) events (with_out (out ++ said) y.now)
@@ -123,7 +123,7 @@ module _ {PL : Type 0} (k : Talk PL) where
 
   -- From x the session came to this end, with these arms still to be closed. Where writing failed, what was said is a front
   -- of what is to be said.
-  pub record Ended (t u : Tape) (x y : Place PL) (moments : List ℤ) (rolls : List (List ℕ)) (end : End) (arms : List Arm) (n : ℕ) : Type 0 where
+  pub record Ended (t u : Tape) (x y : Place PL) (moments : List (Option ℤ)) (rolls : List (Option (List ℕ))) (end : End) (arms : List Arm) (n : ℕ) : Type 0 where
     pub events : List Event
     pub said : List ℕ
     pub all : List ℕ
@@ -140,7 +140,7 @@ module _ {PL : Type 0} (k : Talk PL) where
 
   -- The clause of a whole session: from this desk to that one, with this record of its link, which was fresh, these moments
   -- and rolls, this end and so many turns.
-  pub record IsExplained (x y : Place PL) (tape : Tape) (moments : List ℤ) (rolls : List (List ℕ)) (end : End) (n : ℕ) : Type 0 where
+  pub record IsExplained (x y : Place PL) (tape : Tape) (moments : List (Option ℤ)) (rolls : List (Option (List ℕ))) (end : End) (n : ℕ) : Type 0 where
     pub given : List ℕ
     pub sent : List ℕ
     pub idle : ℕ
