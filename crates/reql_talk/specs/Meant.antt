@@ -1,10 +1,8 @@
 -- What the types of the program mean in the words of a session's story.
-use Rattle.std.specs.Prelude.{ℕ, List, [], ◌∷◌, ◌++◌, map, get_or, Bool, Option, Some, None, option_map}
+use Rattle.std.specs.Prelude.{ℕ, List, [], ◌∷◌, ◌++◌, map, get_or, Bool}
 use Rattle.reql_datum.specs.View.{plain}
 use Rattle.reql_term.specs.Views.{Document, Index}
-use Rattle.reql_table_machine.specs.declared.command.Look.{Look}
 use Rattle.reql_law.specs.Engines.{seen_in}
-use Rattle.reql_law.specs.Machine.{Seen}
 use Rattle.reql_law.specs.Replies.{told_of}
 use Rattle.reql_story.specs.Requests as story
 use Rattle.reql_story.specs.Tasks.{Talk}

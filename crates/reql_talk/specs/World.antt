@@ -1,7 +1,7 @@
 -- A session as its program has it: its link, its clock and its dice, its desk, and what it remembers.
-use Rattle.std.specs.Prelude.{◌≡◌, ◌≢◌, ℕ, ℤ, Bool, List, [], ◌++◌, Option, Some, None}
-use Rattle.reql_outside.specs.Source.{Source}
-use Rattle.reql_outside.specs.Tape.{Tape}
+use Rattle.std.specs.Prelude.{◌≡◌, ◌≢◌, ℕ, ℤ, ◌+◌, Bool, true, List, [], ◌∷◌, flat_map, Option, Some, None}
+use Rattle.reql_outside.specs.Source.{Source, with_all}
+use Rattle.reql_outside.specs.Tape.{Tape, counted}
 use Rattle.reql_shared.specs.Sight.{Sight}
 use Rattle.reql_catalog.specs.declared.catalog.Catalog.{Catalog}
 use Rattle.reql_catalog.specs.declared.command.CatCmd.{CatCmd}
@@ -23,27 +23,43 @@ pub record World (PL : Type 0) : Type 0 where
   pub place : Place PL
 
 module _ {X : Type 0} where
-  abbrev pub with_all : List X → Option (List X) → Option (List X)
-  with_all xs None = None
-  with_all xs (Some told) = Some (told ++ xs)
+  -- what was given in some calls, of which others failed, and how many did
+  abbrev pub given_in : Option X → List X
+  given_in None = []
+  given_in (Some x) = x ∷ []
 
-  -- what a clock or dice gave from one moment to a later one, where they tell it
-  abbrev pub Gave : Source X → Source X → List X → Type 0
-  Gave old new xs = new.gave ≡ with_all xs old.gave
+  abbrev pub given : List (Option X) → List X
+  given calls = flat_map given_in calls
+
+  abbrev pub failed_in : Option X → ℕ
+  failed_in None = 1
+  failed_in (Some x) = 0
+
+  abbrev pub failed : List (Option X) → ℕ
+  failed [] = 0
+  failed (x ∷ calls) = failed_in x + failed calls
+
+  -- What each call of a clock or of dice answered from one moment to a later one: what it gave, where they tell it, or that
+  -- it failed. So often the count of faults rose, and never where they are sound.
+  pub record Gave (old new : Source X) (calls : List (Option X)) : Type 0 where
+    pub gave : new.gave ≡ with_all (given calls) old.gave
+    pub faults : new.faults ≡ counted old.faults (failed calls)
+    pub sound : new.sound ≡ old.sound
+    pub never : old.sound ≡ true → failed calls ≡ 0
 
 module _ {PL : Type 0} (k : Talk PL) where
   -- from one world to another, in so many turns
   pub record Runs (a b : World PL) (n : ℕ) : Type 0 where
-    pub moments : List ℤ
-    pub rolls : List (List ℕ)
+    pub moments : List (Option ℤ)
+    pub rolls : List (Option (List ℕ))
     pub goes : Goes k a.tape b.tape a.place b.place moments rolls n
     pub clock : Gave a.clock b.clock moments
     pub dice : Gave a.dice b.dice rolls
 
   -- from a world to an end, with these arms still to be closed
   pub record Ends (a b : World PL) (end : End) (arms : List Arm) (n : ℕ) : Type 0 where
-    pub moments : List ℤ
-    pub rolls : List (List ℕ)
+    pub moments : List (Option ℤ)
+    pub rolls : List (Option (List ℕ))
     pub ended : Ended k a.tape b.tape a.place b.place moments rolls end arms n
     pub clock : Gave a.clock b.clock moments
     pub dice : Gave a.dice b.dice rolls
@@ -88,10 +104,10 @@ module _ {PL : Type 0} (k : Talk PL) where
     pub wears : Wears most n end
 
   -- A whole session, from what was at work before it to what was after it: it is explained by what was done at the desk, with
-  -- the moments and the bytes that its clock and its dice told.
+  -- the answers of its clock and its dice, each a moment, bytes, or that it failed.
   pub record IsServed (a b : AtWork) (tape : Tape) (end : End) (n : ℕ) : Type 0 where
-    pub moments : List ℤ
-    pub rolls : List (List ℕ)
+    pub moments : List (Option ℤ)
+    pub rolls : List (Option (List ℕ))
     pub explained : IsExplained k (place_at a fresh) (place_at b fresh) tape moments rolls end n
     pub clock : Gave a.clock b.clock moments
     pub dice : Gave a.dice b.dice rolls
