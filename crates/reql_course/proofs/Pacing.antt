@@ -1,8 +1,8 @@
 -- Moves of a course, one after another.
-use Rattle.std.proofs.Common.{◌≡◌, inl, inr, ℕ, ℤ, Bool, List, [], ◌∷◌, ◌++◌, Option, Some, None, refl, ap, ◌∙◌}
+use Rattle.std.proofs.Common.{◌≡◌, inl, inr, ℕ, ℤ, Bool, List, [], ◌∷◌, ◌++◌, Option, refl, ap}
 use Rattle.reql_datum.specs.Plain.{Plain}
 use Rattle.reql_datum.specs.declared.point.Point.{Point}
-use Rattle.reql_outside.specs.Source.{Source, Gives, with_one}
+use Rattle.reql_outside.specs.Source.{Source, Gives}
 use Rattle.reql_shared.specs.Acts.{Ran, Looked, Denied}
 use Rattle.reql_catalog.specs.Catalog.{Named}
 use Rattle.reql_catalog.specs.declared.command.CatCmd.{CatCmd}
@@ -20,36 +20,17 @@ use Rattle.reql_law.specs.declared.reply.Saved.TheVariants as saved
 use Rattle.reql_story.specs.Requests.{Arm, LookNames, TellTime, LookSlot, RunSlot, ChangeNames, Roll, Found, SawNames, Clocked, SawSlot, RanSlot, ChangedNames, Rolled, point_of, points_from}
 use Rattle.reql_story.specs.Books.{Books, saw_names}
 use Rattle.reql_story.specs.Tasks.{Talk, Next, Planning, at, wanted, arms_said, arms_after, arms_denied}
-use Rattle.reql_story.specs.Session.{Clock, Dice, clocked, rolled, goes_on}
+use Rattle.reql_story.specs.Session.{goes_on}
 use Rattle.reql_story.specs.Worlds.{at_desk}
 use Rattle.reql_story.proofs.Going.{goes_said}
 use Rattle.reql_story.proofs.Steps.{same_moves, does_act, does_names, goes_clocked, goes_rolled}
-use Rattle.reql_talk.specs.World.{Gave, with_all, world_of}
-use Rattle.reql_talk.proofs.Running.{all_none, runs_on}
+use Rattle.reql_talk.specs.World.{world_of}
+use Rattle.reql_talk.proofs.Running.{gave_nothing, gave_one, runs_on}
 use Rattle.reql_desk_moves.specs.Acting.{AtDesk, Answers, Denies, Shows, NamesAct}
 use Rattle.reql_desk_moves.specs.Steps.{Steps}
 use Rattle.reql_desk_moves.proofs.Stepping.{steps_ran, steps_denied}
 use Rattle.reql_course.specs.Meeting.{closed_by, opened_by, without_closed, with_opened, noted}
 use Rattle.reql_course.specs.Walking.{Tools, tools, at_work, Walks}
-
--- one more is given
-with_this : {X : Type 0} (o : Option (List X)) (x : X) → with_one x o ≡ with_all (x ∷ []) o
-with_this None x = refl
-with_this (Some xs) x = refl
-
-gave_one : {X : Type 0} (a b : Source X) (x : X) → Gives a b (Some x) → Gave a b (x ∷ [])
-gave_one a b x g = ap (λ z. z.gave) g ∙ with_this a.gave x
-
-gave_none : {X : Type 0} (a b : Source X) → Gives a b None → Gave a b []
-gave_none a b g = ap (λ z. z.gave) g ∙ all_none a.gave
-
-gave_moment : (a b : Source ℤ) (moment : Option ℤ) → Gives a b moment → Gave a b (clocked (Clock moment ∷ []))
-gave_moment a b (Some x) g = gave_one a b x g
-gave_moment a b None g = gave_none a b g
-
-gave_bytes : (a b : Source (List ℕ)) (bytes : Option (List ℕ)) → Gives a b bytes → Gave a b (rolled (Dice bytes ∷ []))
-gave_bytes a b (Some x) g = gave_one a b x g
-gave_bytes a b None g = gave_none a b g
 
 -- the points of what was found
 pub points_more : (ps : List Point) (fs : List Found) (f : Found) → points_from ps (fs ++ f ∷ []) ≡ point_of f (points_from ps fs)
@@ -75,8 +56,8 @@ module _ {PL : Type 0} (k : Talk PL) (some : State) where
     moments = [];
     rolls = [];
     goes = goes_said k t t (at_desk some p (goes_on m back x)) (at_desk some q (goes_on m back y)) [] (s m back) (same_moves t);
-    clock = all_none c.gave;
-    dice = all_none d.gave;
+    clock = gave_nothing c;
+    dice = gave_nothing d;
   }
 
   pub walks_on : (w v u : Tools) (x y z : Next PL) → Walks k some w v x y → Walks k some v u y z → Walks k some w u x z
@@ -127,19 +108,19 @@ module _ {PL : Type 0} (k : Talk PL) (some : State) where
   pub walks_clocked : (p : AtDesk) (c e : Source ℤ) (d : Source (List ℕ)) (b : Books) (token : ℕ) (plan : PL) (noreply : Bool) (count : ℕ) (found : List Found) (arms : List Arm) (moment : Option ℤ) → k.next plan noreply count found ≡ TellTime → Gives c e moment →
       Walks k some (tools p c d) (tools p e d) (at b (Planning token plan noreply count found arms)) (at b (Planning token plan noreply count (found ++ Clocked moment ∷ []) arms))
   walks_clocked p c e d b token plan noreply count found arms moment h g t m back = record {
-    moments = clocked (Clock moment ∷ []);
+    moments = moment ∷ [];
     rolls = [];
     goes = goes_clocked k t (at_desk some p (goes_on m back (at b (Planning token plan noreply count found arms)))) back (Planning token plan noreply count found arms) moment refl h;
-    clock = gave_moment c e moment g;
-    dice = all_none d.gave;
+    clock = gave_one c e moment g;
+    dice = gave_nothing d;
   }
 
   pub walks_rolled : (p : AtDesk) (c : Source ℤ) (d e : Source (List ℕ)) (b : Books) (token : ℕ) (plan : PL) (noreply : Bool) (count : ℕ) (found : List Found) (arms : List Arm) (bytes : Option (List ℕ)) → k.next plan noreply count found ≡ Roll → Gives d e bytes →
       Walks k some (tools p c d) (tools p c e) (at b (Planning token plan noreply count found arms)) (at b (Planning token plan noreply count (found ++ Rolled bytes ∷ []) arms))
   walks_rolled p c d e b token plan noreply count found arms bytes h g t m back = record {
     moments = [];
-    rolls = rolled (Dice bytes ∷ []);
+    rolls = bytes ∷ [];
     goes = goes_rolled k t (at_desk some p (goes_on m back (at b (Planning token plan noreply count found arms)))) back (Planning token plan noreply count found arms) bytes refl h;
-    clock = all_none c.gave;
-    dice = gave_bytes d e bytes g;
+    clock = gave_nothing c;
+    dice = gave_one d e bytes g;
   }
