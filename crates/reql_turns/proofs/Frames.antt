@@ -1,6 +1,5 @@
 -- The turns after the greeting, and all turns.
-use Rattle.std.proofs.Common.{◌≡◌, ◌≢◌, inl, inr, ℕ, ℤ, ◌+◌, ◌<◌, ◌≤◌, Bool, true, false, true≢false, List, [], ◌∷◌, ◌++◌, length, Option, Some, None, refl, sym, ap, subst, ◌∙◌, arith}
-use Rattle.reql_outside.specs.Source.{Source}
+use Rattle.std.proofs.Common.{◌≡◌, ◌≢◌, inl, inr, ℕ, ◌+◌, ◌<◌, ◌≤◌, Bool, true, false, true≢false, List, [], ◌∷◌, ◌++◌, length, Option, Some, None, refl, sym, ap, subst, ◌∙◌, arith}
 use Rattle.reql_outside.specs.Tape.{Tape, Moves, IsFresh}
 use Rattle.reql_wire.specs.Frames.{Fits, NoFrame, Over, spelling, front}
 use Rattle.reql_wire.specs.Frames as frames
@@ -24,7 +23,7 @@ use Rattle.reql_turns.specs.Ears.{IsEnd, ReceivesMore, Stands, Hearing, TurnsOve
 use Rattle.reql_turns.specs.declared.ears.Ears.{Ears}
 use Rattle.reql_turns.specs.declared.ears.Phase.{Phase}
 use Rattle.reql_turns.specs.declared.ears.Phase.TheVariants as phases
-use Rattle.reql_talk.proofs.Running.{all_none, runs_none, runs_on, ends_on, ends_here_on, runs_quiet, ends_quiet}
+use Rattle.reql_talk.proofs.Running.{gave_nothing, runs_none, runs_on, ends_on, ends_here_on, runs_quiet, ends_quiet}
 use Rattle.reql_turns.proofs.Greeted.{standing, over_here}
 
 pub within : (t u : Tape) (room : ℕ) (piece : List ℕ) → room ≤ 65536 → Came t u room piece → Came t u 65536 piece
@@ -156,7 +155,7 @@ module _ {PL : Type 0} (k : Talk PL) where
   serves_worn a t w d most p =
       let m : Mach PL = mach_at w p.held p.greeted Rest in
       let x : Mach PL = leaves m w.books ends.Worn in
-      let e : Ends k (world_at t w p.held p.greeted Rest) (world_of t w x) ends.Worn (all_arms w.books) 0 = record { moments = []; rolls = []; ended = ends_worn k t (place_at w m) refl; clock = all_none w.clock.gave; dice = all_none w.dice.gave } in
+      let e : Ends k (world_at t w p.held p.greeted Rest) (world_of t w x) ends.Worn (all_arms w.books) 0 = record { moments = []; rolls = []; ended = ends_worn k t (place_at w m) refl; clock = gave_nothing w.clock; dice = gave_nothing w.dice } in
       record { last = x; ends = subst (Ends k a (world_of t w x) ends.Worn (all_arms w.books)) (add_nothing most) (ends_on k a (world_at t w p.held p.greeted Rest) (world_of t w x) ends.Worn (all_arms w.books) most 0 p.runs e); wears = record { within = omega arith; worn = λ z. refl } }
 
   pub serves_poor : (t : Tape) (w : AtWork) (most : ℕ) → Serves k (world_at t w [] false Rest) most t w ends.Memory 0
@@ -190,6 +189,6 @@ module _ {PL : Type 0} (k : Talk PL) where
           slots = r.slots;
           names = r.names;
         };
-        clock = ap (λ (c : Source ℤ). c.gave) c ∙ s.ends.clock;
-        dice = ap (λ (c : Source (List ℕ)). c.gave) d ∙ s.ends.dice;
+        clock = subst (λ z. Gave w.clock z s.ends.moments) (sym c) s.ends.clock;
+        dice = subst (λ z. Gave w.dice z s.ends.rolls) (sym d) s.ends.dice;
       }
