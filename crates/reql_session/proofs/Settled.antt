@@ -16,7 +16,7 @@ use Rattle.reql_story.proofs.Going.{goes_said}
 use Rattle.reql_story.proofs.Steps.{same_moves, does_step, does_say, does_want, ends_unsent}
 use Rattle.reql_talk.specs.World.{AtWork, Runs, Outcome, place_at, mach_at, world_at, world_of}
 use Rattle.reql_talk.specs.Meant.{Course, next_of}
-use Rattle.reql_talk.proofs.Running.{all_none, runs_on, runs_none, runs_quiet, ends_here_on, ends_quiet}
+use Rattle.reql_talk.proofs.Running.{gave_nothing, runs_on, runs_none, runs_quiet, ends_here_on, ends_quiet}
 use Rattle.reql_desk_moves.specs.Acting.{AtDesk}
 use Rattle.reql_desk_moves.specs.Steps.{Steps}
 use Rattle.reql_course.specs.Walking.{Tools, Walks}
@@ -96,8 +96,8 @@ module _ {PL : Type 0} (k : Talk PL) where
     moments = [];
     rolls = [];
     goes = goes_said k t t (at_desk some p (goes_on m back x)) (at_desk some q (goes_on m back y)) [] (s m back) (same_moves t);
-    clock = all_none clock.gave;
-    dice = all_none dice.gave;
+    clock = gave_nothing clock;
+    dice = gave_nothing dice;
   }
 
   pub leads_walks : (some : State) (t : Tape) (v w : Tools) (a b : Books) (x y : Next PL) → Walks k some v w x y → Leads k t t (working some v.desk a v.clock v.dice) (working some w.desk b w.clock w.dice) x y
