@@ -33,8 +33,9 @@ pub record IsLedTo {E NE : Type 0} (state : E → State) (known : NE → Catalog
   pub of_desks : All (λ (f : Closing E Order State). AllBelow f.object.passes f.history) left.slots
 
 module _ {PL E NE : Type 0} (k : Talk PL) (some : State) (state : E → State) (known : NE → Catalog) where
-  -- One session at the desk of such a hall is explained, and at the end that desk has seen the whole histories of the hall,
-  -- whose names and engines are where these lead, and in which nobody else has an entry.
+  -- One session at the desk of such a hall is explained, with the answers of this clock and these dice, which fail only where
+  -- they aren't sound. At the end that desk has seen the whole histories of the hall, whose names and engines are where these
+  -- lead, and in which nobody else has an entry.
   pub record ServesOne (names : Catalog) (engines : List State) (clock : Source ℤ) (dice : Source (List ℕ)) (tape : Tape) (end : End) (turns : ℕ) (left : Closed E Order State NE CatCmd Catalog) : Type 0 where
     pub hall : Rooms State Catalog
     pub opens : Opens names engines hall
