@@ -1,11 +1,11 @@
 -- The tables of a hall that nobody has used: they are good, and no feed is open on them.
-use Rattle.std.proofs.Common.{◌≡◌, ℕ, zero, suc, List, [], ◌∷◌, map, replicate, slice_index_or, refl, sym, subst}
+use Rattle.std.proofs.Common.{◌≡◌, ◌<◌, All, ap, arith, get_or, length, ℕ, zero, suc, List, [], ◌∷◌, map, replicate, slice_index_or, refl, sym, subst}
 use Rattle.std.specs.List.Sorted.{IsStrictlySortedBy}
 use Rattle.reql_shared.specs.Sight.{Object, Sight, unused as unused_pass}
 use Rattle.reql_hall.specs.Rooms.{Rooms, pass, unused_desk}
 use Rattle.reql_catalog.specs.declared.catalog.Catalog.{Catalog}
 use Rattle.reql_law.specs.Laws.{AreGood}
-use Rattle.reql_law.specs.Machine.{State, unused}
+use Rattle.reql_law.specs.Machine.{State, machine, unused}
 use Rattle.reql_law.specs.declared.command.Order.{Order}
 use Rattle.reql_desk_moves.specs.Acting.{AtDesk}
 
@@ -40,3 +40,22 @@ are_good hall n most t is = at_start (λ s. AreGood s.table.docs) hall n most t 
 pub no_feeds : (hall : Rooms State Catalog) (n most t : ℕ) → map (λ (o : Object State). o.start) hall.slots ≡ replicate n (unused most)
     → (pass (unused 0) (desk hall) t).object.start.table.feeds ≡ []
 no_feeds hall n most t is = at_start (λ s. s.table.feeds ≡ []) hall n most t is refl refl
+
+head_or : {A : Type 0} → A → List A → A
+head_or d [] = d
+head_or d (x ∷ xs) = x
+
+tail_of : {A : Type 0} → List A → List A
+tail_of [] = []
+tail_of (x ∷ xs) = xs
+
+each : {A B : Type 0} (P : B → Type 0) (f : A → B) (u : B) → P u → (xs : List A) (n : ℕ) → map f xs ≡ replicate n u → (i : ℕ) (d : A) → i < length xs → P (f (get_or xs i d))
+unfolding head_or tail_of
+each P f u pu [] n e i d lt = absurd (omega (arith, lt))
+each P f u pu (x ∷ xs) zero e i d lt = absurd (omega (arith, ap length e))
+each P f u pu (x ∷ xs) (suc n) e zero d lt = subst P (sym (ap (head_or u) e)) pu
+each P f u pu (x ∷ xs) (suc n) e (suc i) d lt = each P f u pu xs n (ap tail_of e) i d (omega (arith, lt))
+
+-- engines that nobody has used are at place 0
+pub all_unused : {A : Type 0} (f : A → State) (most : ℕ) (xs : List A) (n : ℕ) → map f xs ≡ replicate n (unused most) → All (λ x. machine.place (f x) ≡ 0) xs
+all_unused f most xs n e = λ i d lt. each (λ s. machine.place s ≡ 0) f (unused most) refl xs n e i d lt

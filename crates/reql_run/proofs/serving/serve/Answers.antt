@@ -9,7 +9,11 @@ use Rattle.reql_open_feed.specs.Open.{held_in}
 use Rattle.reql_serve.specs.Serving.{ServesOne}
 use Rattle.reql_words.specs.Words.{named}
 use Rattle.reql_run.proofs.Served.{moved}
+use Rattle.reql_run.proofs.Starting.{all_unused}
 use Rattle.reql_run.proofs.serving.serve.Goals as goal
+
+pub serve_one-requires-clause-slots_unused : goal.serve_one-requires-clause-slots_unused
+serve_one-requires-clause-slots_unused g c = all_unused (λ c. state_of held_in c.live) _ c.in_ok-engines.engines.items _ c.in_ok-engines.ensures
 
 pub returns : goal.returns
 returns g c =
