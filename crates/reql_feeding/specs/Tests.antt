@@ -1,6 +1,7 @@
 -- The tests of a feed's term, in smaller parts.
 use Rattle.std.specs.Prelude.{ℕ, ℤ, pos, List, Option, Some, Bool, ◌&&◌, if◌then◌else◌, nat_le, Ok, Err, codes}
 use Rattle.reql_datum.specs.Answer.{Answer, ◌>>=◌}
+use Rattle.reql_datum.specs.Keys.{is_key}
 use Rattle.reql_datum.specs.Members.{find}
 use Rattle.reql_term.specs.Form.{Form, NamedForms}
 use Rattle.reql_rules.specs.Faults.{bad_option}
@@ -12,16 +13,20 @@ use Rattle.reql_value.specs.World.{World}
 use Rattle.reql_write_law.specs.Selecting.{slots}
 use Rattle.reql_law.specs.Followed.{first_slot}
 use Rattle.reql_plan_law.specs.Settled.{there}
-use Rattle.reql_plan_law.specs.Feeding.{tested, literals, order_name, index_or, agrees, between_name, count_in, single}
+use Rattle.reql_plan_law.specs.Feeding.{datum_at, givens, order_name, index_or, agrees, between_name, count_in, single}
+
+abbrev pub key_at : Form → Answer (Unit {0})
+key_at f = datum_at f >>= key_if is_key >>= λ _. Ok tt
 
 abbrev pub bounds_test : Form → Form → List (Bytes × Form) → Answer (Unit {0})
 bounds_test l h ms = do
-  _ ← tested (key_if may_bound) l
-  _ ← tested (key_if may_bound) h
-  os ← literals ms
-  _ ← index_text os
-  _ ← left_is_open os
-  _ ← right_is_open os
+  low ← datum_at l
+  high ← datum_at h
+  _ ← key_if may_bound low
+  _ ← key_if may_bound high
+  _ ← index_text (givens ms)
+  _ ← left_is_open (givens ms)
+  _ ← right_is_open (givens ms)
   Ok tt
 
 -- the name of the index among options

@@ -1,19 +1,17 @@
 // Limit feeds: their counts, and the index that they go by.
 ghost use Rattle.std.specs.Prelude.{◌≡◌, map, option_map};
 ghost use Rattle.reql_datum.specs.Outcome.{Gives};
-ghost use Rattle.reql_datum.specs.View.{plain};
 ghost use Rattle.reql_term.specs.View.{form_of};
 ghost use Rattle.reql_term.specs.Views.{index_of};
-ghost use Rattle.reql_rules.specs.Types.{as_number as as_number_of};
 ghost use Rattle.reql_operand.specs.Tables.{seen};
 ghost use Rattle.reql_plan_law.specs.Feeding.{natural as natural_of, count_in as count_in_of, is_multi as is_multi_of, single as single_of, limit_test as limit_test_of};
 ghost use Rattle.reql_feeding.specs.Tests.{limit_over as limit_over_of};
 
-use crate::literals::literal_in;
+use crate::literals::number_in;
 use crate::orders::name_of_order;
 use crate::texts::{multi_feed, over_limit};
-use reql_datum::{Datum, Fault, Whole};
-use reql_operand::{Arg, Value, World, as_number, misplaced, negative_count, table_at};
+use reql_datum::{Fault, Whole};
+use reql_operand::{World, misplaced, negative_count, table_at};
 use reql_reads::first_slot;
 use reql_term::{IndexDef, TableView, Term};
 use std::alloc::Global;
@@ -32,19 +30,11 @@ fn natural(alloc: Global, number: Whole) -> Result<u32, Fault>
     Err(Fault::ResourceLimit(over_limit(alloc)?))
 }
 
-fn number_of(alloc: Global, datum: &Datum) -> Result<Whole, Fault>
-    ensures { Gives (λ n. n) result (as_number_of (plain datum.now)) }
-{
-    let given = Arg::Value(Value::One(datum.copy()?));
-    as_number(alloc, &given)
-}
-
 /// The count of a limit feed.
 pub(crate) fn count_in(alloc: Global, term: &Term) -> Result<u32, Fault>
     ensures { Gives (λ n. n) result (count_in_of (form_of term.now)) }
 {
-    let datum = literal_in(alloc, term)?;
-    let number = number_of(alloc, datum)?;
+    let number = number_in(alloc, term)?;
     natural(alloc, number)
 }
 

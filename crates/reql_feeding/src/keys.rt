@@ -5,11 +5,12 @@ ghost use Rattle.reql_datum.specs.Kinds.{is_storable};
 ghost use Rattle.reql_datum.specs.Outcome.{Gives};
 ghost use Rattle.reql_datum.specs.View.{plain};
 ghost use Rattle.reql_term.specs.View.{form_of};
+ghost use Rattle.reql_rules.specs.Lists.{each};
 ghost use Rattle.reql_value.specs.Tables.{key_if, may_bound as may_bound_of};
-ghost use Rattle.reql_plan_law.specs.Feeding.{tested, all_tested, get_test as get_test_of, keys_test as keys_test_of, between_test as between_test_of};
-ghost use Rattle.reql_feeding.specs.Tests.{bounds_test as bounds_test_of};
+ghost use Rattle.reql_plan_law.specs.Feeding.{get_test as get_test_of, keys_test as keys_test_of, between_test as between_test_of};
+ghost use Rattle.reql_feeding.specs.Tests.{key_at, bounds_test as bounds_test_of};
 
-use crate::literals::{literal_in, literals};
+use crate::literals::{data_in, datum_in, givens};
 use reql_datum::{Datum, Fault};
 use reql_operand::{index_text, left_is_open, misplaced, not_a_key, right_is_open};
 use reql_term::{Term, TermFields};
@@ -24,13 +25,17 @@ fn as_key(alloc: Global, datum: &Datum) -> Result<(), Fault>
     Err(Fault::QueryLogic(not_a_key(alloc, datum.type_name())?))
 }
 
-fn as_storable(alloc: Global, datum: &Datum) -> Result<(), Fault>
-    ensures { Gives (λ u. plain datum.now) result (key_if is_storable (plain datum.now)) }
+// That all may be keys of GET_ALL.
+fn all_storable(alloc: Global, keys: &[Datum]) -> Result<(), Fault>
+    ensures { Gives (λ u. map plain keys.now) result
+        (each (key_if is_storable) (map plain keys.now)) }
 {
-    if datum.is_storable() {
-        return Ok(());
+    for key in keys {
+        if !key.is_storable() {
+            return Err(Fault::QueryLogic(not_a_key(alloc, key.type_name())?));
+        }
     }
-    Err(Fault::QueryLogic(not_a_key(alloc, datum.type_name())?))
+    Ok(())
 }
 
 fn may_bound(datum: &Datum) -> bool
@@ -52,36 +57,10 @@ fn as_bound(alloc: Global, datum: &Datum) -> Result<(), Fault>
 }
 
 fn key_tested(alloc: Global, term: &Term) -> Result<(), Fault>
-    ensures { Gives (λ u. u) result (tested (key_if is_key) (form_of term.now)) }
+    ensures { Gives (λ u. u) result (key_at (form_of term.now)) }
 {
-    let datum = literal_in(alloc, term)?;
-    as_key(alloc, datum)?;
-    Ok(())
-}
-
-fn storable_tested(alloc: Global, term: &Term) -> Result<(), Fault>
-    ensures { Gives (λ u. u) result (tested (key_if is_storable) (form_of term.now)) }
-{
-    let datum = literal_in(alloc, term)?;
-    as_storable(alloc, datum)?;
-    Ok(())
-}
-
-fn bound_tested(alloc: Global, term: &Term) -> Result<(), Fault>
-    ensures { Gives (λ u. u) result (tested (key_if may_bound_of) (form_of term.now)) }
-{
-    let datum = literal_in(alloc, term)?;
-    as_bound(alloc, datum)?;
-    Ok(())
-}
-
-fn all_storable(alloc: Global, terms: &[Term]) -> Result<(), Fault>
-    ensures { Gives (λ u. u) result
-        (all_tested (key_if is_storable) (map form_of terms.now)) }
-{
-    for term in terms {
-        storable_tested(alloc, term)?;
-    }
+    let datum = datum_in(alloc, term)?;
+    as_key(alloc, &datum)?;
     Ok(())
 }
 
@@ -104,8 +83,9 @@ pub(crate) fn keys_test(alloc: Global, terms: &[Term], fields: &TermFields) -> R
     if terms.is_empty() {
         return Err(Fault::QueryLogic(misplaced(alloc)?));
     }
-    all_storable(alloc, &terms[1..])?;
-    let given = literals(alloc, fields)?;
+    let keys = data_in(alloc, &terms[1..])?;
+    all_storable(alloc, keys.as_slice())?;
+    let given = givens(alloc, fields)?;
     let _index = index_text(alloc, &given)?;
     Ok(())
 }
@@ -115,9 +95,11 @@ fn bounds_test(alloc: Global, low: &Term, high: &Term, fields: &TermFields) -> R
     ensures { Gives (λ u. u) result
         (bounds_test_of (form_of low.now) (form_of high.now) fields.now) }
 {
-    bound_tested(alloc, low)?;
-    bound_tested(alloc, high)?;
-    let given = literals(alloc, fields)?;
+    let low = datum_in(alloc, low)?;
+    let high = datum_in(alloc, high)?;
+    as_bound(alloc, &low)?;
+    as_bound(alloc, &high)?;
+    let given = givens(alloc, fields)?;
     let _index = index_text(alloc, &given)?;
     let _low_open = left_is_open(alloc, &given)?;
     let _high_open = right_is_open(alloc, &given)?;

@@ -1,11 +1,11 @@
 -- The names of databases and tables in the term of a request, as the catalogue has them at one look: each table becomes its slot, and what
--- is about names alone a literal.
+-- is about names alone a list of literals.
 use Rattle.std.specs.Prelude.{ℕ, List, [], map, Option, Some, None, Bool, true, false, Ok, Err, is_some}
 use Rattle.std.specs.Map.{keys_of}
 use Rattle.reql_datum.specs.Answer.{Answer, ◌>>=◌}
 use Rattle.reql_datum.specs.Members.{find}
-use Rattle.reql_datum.specs.Plain.{Plain, array, text, items_of}
-use Rattle.reql_term.specs.Form.{Form, literal, keyed, slot, operation, Forms, no_forms, form, NamedForms}
+use Rattle.reql_datum.specs.Plain.{Plain, text}
+use Rattle.reql_term.specs.Form.{Form, literal, several, keyed, slot, operation, Forms, no_forms, form, forms_of, NamedForms}
 use Rattle.reql_term.specs.Table.{naming_of}
 use Rattle.reql_term.specs.declared.op.Op.{Op}
 use Rattle.reql_term.specs.declared.role.Naming.{Naming}
@@ -58,8 +58,9 @@ slot_or p (Some n) = Ok (Some (slot n))
 abbrev pub checked_table : Named → List ℕ × List ℕ → Answer (Option Form)
 checked_table ns p = checked_db ns p.0 >>= λ _. found (is_name p.1) (slot_or p (slot_of p.0 p.1 ns))
 
+-- The names as a term that gives their array, so that it is held to the size that arrays may have.
 abbrev pub listed : List (List ℕ) → Answer (Option Form)
-listed names = Ok (Some (literal (array (items_of (map text names)))))
+listed names = Ok (Some (several (forms_of (map literal (map text names)))))
 
 abbrev pub tables_listed : Named → List ℕ → Answer (Option Form)
 tables_listed ns db = checked_db ns db >>= λ _. listed (tables_of db ns)

@@ -1,7 +1,7 @@
 // Names become slots.
-ghost use Rattle.std.specs.Prelude.{◌≡◌, option_map, IfOk};
+ghost use Rattle.std.specs.Prelude.{◌≡◌, map, option_map, IfOk};
 ghost use Rattle.reql_datum.specs.Outcome.{Gives};
-ghost use Rattle.reql_term.specs.Form.{keyed, forms_of, named_of};
+ghost use Rattle.reql_term.specs.Form.{literal, several, keyed, forms_of, named_of};
 ghost use Rattle.reql_term.specs.View.{form_of};
 ghost use Rattle.reql_rewrite.specs.Rewrite.{rewritten};
 ghost use Rattle.reql_naming.specs.Named.{checked_db, checked_table, tables_listed, by_naming, value_rule, is_command, with_options, command_answer, op_rule, names_rule, resolved};
@@ -9,7 +9,7 @@ ghost use Rattle.reql_naming.specs.Named.{checked_db, checked_table, tables_list
 use crate::parts::{Pair, db_of, first_name, pair_of};
 use crate::texts::{bad_name, no_db, no_table};
 use reql_catalog::{Names, is_name};
-use reql_datum::{Datum, Fault, Memory};
+use reql_datum::{Fault, Items, Memory};
 use reql_rewrite::{Rule, rewrite};
 use reql_term::{Naming, Op, Term, TermFields, Terms};
 use std::alloc::Global;
@@ -51,9 +51,9 @@ impl Rule for OfRequests<'_> {
 }
 
 /// The term of a request with its tables as slots, at one look at the catalogue, and what it asks of
-/// names alone as a literal; or the fault of the first name in preorder that breaks the rule of names
-/// or isn't there. A table's database, which is `db` where it is left out, comes before its own name.
-/// What a command makes or drops is left to its reply.
+/// names alone as a list of literals; or the fault of the first name in preorder that breaks the rule of
+/// names or isn't there. A table's database, which is `db` where it is left out, comes before its own
+/// name. What a command makes or drops is left to its reply.
 pub fn resolved(alloc: Global, names: &Names, db: &str, term: &Term) -> Result<Term, Fault>
     ensures { Gives form_of result (resolved names.now db.now (form_of term.now)) }
 {
@@ -142,7 +142,7 @@ fn by_naming(
             Ok(None)
         }
         Naming::Table => check_table(alloc, names, pair_of(db, args)),
-        Naming::Databases => Ok(Some(Term::Lit(Datum::List(names.dbs(alloc)?)))),
+        Naming::Databases => Ok(Some(listed(alloc, &names.dbs(alloc)?)?)),
         Naming::Tables => tables(alloc, names, db_of(db, args)),
         _ => Ok(None),
     }
@@ -152,7 +152,18 @@ fn tables(alloc: Global, names: &Names, db: &str) -> Result<Option<Term>, Fault>
     ensures { Gives (option_map form_of) result (tables_listed names.now db.now) }
 {
     check_db(alloc, names, db)?;
-    Ok(Some(Term::Lit(Datum::List(names.tables(alloc, db)?))))
+    Ok(Some(listed(alloc, &names.tables(alloc, db)?)?))
+}
+
+// A term that gives the array of these documents.
+fn listed(alloc: Global, items: &Items) -> Result<Term, Memory>
+    ensures { IfOk result (λ t. form_of t ≡ several (forms_of (map literal items.now))) }
+{
+    let mut terms = Terms::with_room(alloc, items.len())?;
+    for item in items.as_slice() {
+        terms.push(Term::Lit(item.copy()?))?;
+    }
+    Ok(Term::Arr(terms))
 }
 
 fn check_db(alloc: Global, names: &Names, db: &str) -> Result<(), Fault>

@@ -1,5 +1,5 @@
 -- The feeds that CHANGES asks for: the term of each with the data of its arguments in their places, tested as its row says, and the options.
-use Rattle.std.specs.Prelude.{ℕ, ℤ, pos, negsuc, List, [], ◌∷◌, Option, Some, None, option_and_then, Bool, true, false, ◌&&◌, if◌then◌else◌, nat_le, Ok, Err, codes}
+use Rattle.std.specs.Prelude.{ℕ, ℤ, pos, negsuc, List, [], ◌∷◌, map, Option, Some, None, option_and_then, Bool, true, false, ◌&&◌, if◌then◌else◌, nat_le, Ok, Err, codes}
 use Rattle.std.specs.Option.{unwrap_or}
 use Rattle.reql_datum.specs.Answer.{Answer, ◌>>=◌}
 use Rattle.reql_datum.specs.Keys.{is_key}
@@ -14,15 +14,15 @@ use Rattle.reql_term.specs.declared.op.Op.TheVariants as op
 use Rattle.reql_term.specs.declared.role.Way.{Way}
 use Rattle.reql_term.specs.declared.role.Way.TheVariants as way
 use Rattle.reql_rules.specs.Faults.{misplaced, misplaced_order, bad_option, negative_count}
-use Rattle.reql_rules.specs.Lists.{Bytes}
-use Rattle.reql_rules.specs.Types.{as_number, same_text, text_in}
+use Rattle.reql_rules.specs.Lists.{Bytes, each}
+use Rattle.reql_rules.specs.Types.{same_text, text_in}
 use Rattle.reql_faults.specs.Places.{first, second, option}
 use Rattle.reql_faults.specs.Shapes.{shape}
 use Rattle.reql_faults.specs.declared.shape.Shape.{Shape}
 use Rattle.reql_faults.specs.declared.shape.Shape.TheVariants as shapes
-use Rattle.reql_value.specs.Meant.{one, given, Given, Options}
+use Rattle.reql_value.specs.Meant.{one, given, callee, Given, Options}
 use Rattle.reql_value.specs.Tables.{key_if, may_bound}
-use Rattle.reql_value.specs.Wanted.{index_text, left_is_open, right_is_open, seen}
+use Rattle.reql_value.specs.Wanted.{as_datum, as_number, index_text, left_is_open, right_is_open, seen}
 use Rattle.reql_value.specs.World.{World, view_at}
 use Rattle.reql_write_law.specs.Selecting.{slots}
 use Rattle.reql_feed_law.specs.declared.kind.FeedKind.{FeedKind}
@@ -35,41 +35,38 @@ use Rattle.reql_plan_law.specs.Settled.{there, settled, options_given, truth_opt
 use Rattle.reql_plan_law.specs.Texts.{over_limit, multi_feed}
 
 -- ---- the tests of a term whose arguments have their data, in the order of its row
-abbrev pub literal_in : Form → Answer Plain
-literal_in (literal d) = Ok d
-literal_in f = Err misplaced
+-- what an argument or an optional one is, once it has its data; a function stands as it is, and is no datum
+abbrev pub given_in : Form → Given
+given_in (literal d) = given (one d)
+given_in f = callee 0
 
-abbrev pub literals : List (Bytes × Form) → Answer Options
-literals [] = Ok []
-literals (m ∷ ms) = literal_in m.1 >>= λ d. literals ms >>= λ os. Ok ((m.0, given (one d)) ∷ os)
+abbrev pub givens : List (Bytes × Form) → Options
+givens ms = map (λ m. (m.0, given_in m.1)) ms
 
-abbrev pub tested : (Plain → Answer Plain) → Form → Answer (Unit {0})
-tested test f = literal_in f >>= test >>= λ _. Ok tt
-
-abbrev pub all_tested : (Plain → Answer Plain) → List Form → Answer (Unit {0})
-all_tested test [] = Ok tt
-all_tested test (f ∷ fs) = tested test f >>= λ _. all_tested test fs
+abbrev pub datum_at : Form → Answer Plain
+datum_at f = as_datum (given_in f)
 
 abbrev pub get_test : List Form → Answer (Unit {0})
-get_test (t ∷ k ∷ []) = tested (key_if is_key) k
+get_test (t ∷ k ∷ []) = datum_at k >>= key_if is_key >>= λ _. Ok tt
 get_test fs = Err misplaced
 
 abbrev pub keys_test : List Form → List (Bytes × Form) → Answer (Unit {0})
 keys_test [] ms = Err misplaced
 keys_test (t ∷ ks) ms = do
-  _ ← all_tested (key_if is_storable) ks
-  os ← literals ms
-  _ ← index_text os
+  ds ← each datum_at ks
+  _ ← each (key_if is_storable) ds
+  _ ← index_text (givens ms)
   Ok tt
 
 abbrev pub between_test : List Form → List (Bytes × Form) → Answer (Unit {0})
 between_test (t ∷ l ∷ h ∷ []) ms = do
-  _ ← tested (key_if may_bound) l
-  _ ← tested (key_if may_bound) h
-  os ← literals ms
-  _ ← index_text os
-  _ ← left_is_open os
-  _ ← right_is_open os
+  low ← datum_at l
+  high ← datum_at h
+  _ ← key_if may_bound low
+  _ ← key_if may_bound high
+  _ ← index_text (givens ms)
+  _ ← left_is_open (givens ms)
+  _ ← right_is_open (givens ms)
   Ok tt
 between_test fs ms = Err misplaced
 
@@ -123,7 +120,7 @@ natural (pos n) = if nat_le n 100000 then Ok n else Err over_limit
 natural (negsuc n) = Err negative_count
 
 abbrev pub count_in : Form → Answer ℕ
-count_in f = literal_in f >>= as_number >>= natural
+count_in f = as_number (given_in f) >>= natural
 
 -- no limit feed goes over a multi index; where its index isn't there, Subscribe tells
 abbrev pub is_multi : Option Index → Bool

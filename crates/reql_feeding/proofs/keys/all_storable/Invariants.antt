@@ -1,9 +1,10 @@
-use Rattle.std.proofs.Common.{◌≡◌, drop, map}
+use Rattle.std.proofs.Common.{◌≡◌, ◌++◌, take, drop, map, Ok}
+use Rattle.reql_datum.specs.Answer.{◌>>=◌}
 use Rattle.reql_datum.specs.Kinds.{is_storable}
-use Rattle.reql_term.specs.View.{form_of}
+use Rattle.reql_datum.specs.View.{plain}
+use Rattle.reql_rules.specs.Lists.{each}
 use Rattle.reql_value.specs.Tables.{key_if}
-use Rattle.reql_plan_law.specs.Feeding.{all_tested}
 use Rattle.reql_feeding.proofs.keys.all_storable.Given as goal
 
-abbrev pub invariant-loop-term : goal.invariant-loop-term
-invariant-loop-term l = all_tested (key_if is_storable) (map form_of (drop l.term-index l.terms)) ≡ all_tested (key_if is_storable) (map form_of l.terms)
+abbrev pub invariant-loop-key : goal.invariant-loop-key
+invariant-loop-key l = each (key_if is_storable) (map plain l.keys) ≡ (each (key_if is_storable) (map plain (drop l.key-index l.keys)) >>= λ es. Ok (map plain (take l.key-index l.keys) ++ es))
