@@ -97,7 +97,7 @@ module _ {PL : Type 0} (k : Talk PL) where
   step_few m x Poor s =
       let a = at _ _ s.1 in
       elim s.0 [
-        | inl d ↦ record { few = omega (arith, ap owed d, ap owed a.0, ap length a.1, ap flag a.2) }
+        | inl d ↦ record { few = omega (arith, ap owed d.0, ap owed a.0, ap length a.1, ap flag a.2) }
         | inr d ↦ record { few = omega (arith, ap owed d.0, ap owed a.0, ap length a.1, ap flag a.2) }
       ]
   step_few m x (On slot (Ran place order reply) saved) s =

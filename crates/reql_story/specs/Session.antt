@@ -1,6 +1,6 @@
 -- The session machine: what a session remembers, and its events.
 use Rattle.std.specs.Prelude.{◌≡◌, ◌⊎◌, ◌≤◌, ℕ, ℤ, ◌+◌, nat_eq, if◌then◌else◌, Bool, true, false, List, [], ◌∷◌, ◌++◌, length, drop, flat_map, Option, Some, None}
-use Rattle.reql_wire.specs.Frames.{Fits, NoFrame, Over, spelling, front}
+use Rattle.reql_wire.specs.Frames.{Fits, NoFrame, HoldsFrame, Over, spelling, front}
 use Rattle.reql_wire.specs.Frames as frames
 use Rattle.reql_wire.specs.Greeting.{Greets, accepted, refusal}
 use Rattle.reql_wire.specs.declared.frame.Frame.{Frame}
@@ -122,9 +122,9 @@ module _ {PL : Type 0} (k : Talk PL) where
   abbrev pub IsReady : Mach PL → Type 0
   IsReady m = (m.doing ≡ Visits []) × Unread m.greeted m.held
 
-  -- the bytes of a frame, or what the greeting is answered with, may find no room
+  -- the body of a whole frame that is held, or what the greeting is answered with, may find no room
   abbrev pub MayStarve : Mach PL → Type 0
-  MayStarve m = (m.doing ≡ Visits []) ⊎ ((m.doing ≡ Rest) × (m.greeted ≡ false))
+  MayStarve m = ((m.doing ≡ Visits []) × (m.greeted ≡ true) × HoldsFrame k.limits.frame m.held) ⊎ ((m.doing ≡ Rest) × (m.greeted ≡ false))
 
   -- one act on a slot: by a task, or in leaving
   pub record TaskRuns (m : Mach PL) (slot : ℕ) (order : Order) (reply : Told) (saved : Saved) (n : Mach PL) : Type 0 where

@@ -17,6 +17,6 @@ pub enum End {
     WriteFault,
     /// All turns were used up.
     Worn,
-    /// Memory was wanted before the greeting was answered, or for bytes that came.
+    /// Memory was wanted before the greeting was answered, for bytes that came, or for the body of a whole frame.
     Memory,
 }

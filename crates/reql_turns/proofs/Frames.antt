@@ -1,7 +1,7 @@
 -- The turns after the greeting, and all turns.
 use Rattle.std.proofs.Common.{◌≡◌, ◌≢◌, inl, inr, ℕ, ◌+◌, ◌<◌, ◌≤◌, Bool, true, false, true≢false, List, [], ◌∷◌, ◌++◌, length, Option, Some, None, refl, sym, ap, subst, ◌∙◌, arith}
 use Rattle.reql_outside.specs.Tape.{Tape, Moves, IsFresh}
-use Rattle.reql_wire.specs.Frames.{Fits, NoFrame, Over, spelling, front}
+use Rattle.reql_wire.specs.Frames.{Fits, NoFrame, HoldsFrame, Over, spelling, front}
 use Rattle.reql_wire.specs.Frames as frames
 use Rattle.reql_wire.specs.Feeding.{Holding}
 use Rattle.reql_wire.specs.Greeting.{Greets, Listening, verdict_of}
@@ -72,8 +72,8 @@ module _ {PL : Type 0} (k : Talk PL) where
   pub long_so : (t : Tape) (w : AtWork) (a : List ℕ) (limit len : ℕ) → limit ≡ k.limits.frame → Over limit a len → EndsHere k (world_at t w a true (Visits [])) t w (ends.TooLong len) 0
   long_so t w a limit len e o = ends_quiet k t t w (mach_at w a true (Visits [])) (leaves (mach_at w a true (Visits [])) w.books (ends.TooLong len)) (ends.TooLong len) 0 tt (ends_long k t (place_at w (mach_at w a true (Visits []))) len refl refl (subst (λ z. Over z a len) e o))
 
-  pub poor_so : (t : Tape) (w : AtWork) (a : List ℕ) → EndsHere k (world_at t w a true (Visits [])) t w ends.Memory 0
-  poor_so t w a = ends_quiet k t t w (mach_at w a true (Visits [])) (leaves (mach_at w a true (Visits [])) w.books ends.Memory) ends.Memory 0 tt (ends_poor k t (place_at w (mach_at w a true (Visits []))) (inl refl))
+  pub poor_so : (t : Tape) (w : AtWork) (a : List ℕ) (limit : ℕ) → limit ≡ k.limits.frame → HoldsFrame limit a → EndsHere k (world_at t w a true (Visits [])) t w ends.Memory 0
+  poor_so t w a limit e h = ends_quiet k t t w (mach_at w a true (Visits [])) (leaves (mach_at w a true (Visits [])) w.books ends.Memory) ends.Memory 0 tt (ends_poor k t (place_at w (mach_at w a true (Visits []))) (inl (refl, refl, subst (λ z. HoldsFrame z a) e h)))
 
   -- ---- a turn begins
   fresh_turn : (t : Tape) (w : AtWork) (held : List ℕ) (greeted : Bool) → w.books ≡ no_books → Runs k (world_at t w held greeted Rest) (world_at t w held greeted (Visits [])) 1

@@ -1,5 +1,5 @@
 use Rattle.std.specs.Prelude.{◌≡◌, ℕ, ◌<◌, ◌≤◌, ◌^◌, List, ◌++◌, length, Option, Some, None, Result, Ok, Err}
-use Rattle.reql_wire.specs.Frames.{Fits, spelling, More, Whole, TooLong, front, NoFrame, Over}
+use Rattle.reql_wire.specs.Frames.{Fits, spelling, More, Whole, TooLong, front, NoFrame, HoldsFrame, Over}
 use Rattle.reql_wire.specs.declared.frame.Frame.{Frame}
 use Rattle.reql_wire.specs.declared.frame.WireFault.{WireFault}
 use Rattle.reql_wire.specs.declared.frame.WireFault.TheVariants as fault
@@ -21,7 +21,7 @@ Takes old new (Ok None) =
     (front old.limit old.held ≡ More) × NoFrame old.limit old.held × (new ≡ old)
 Takes old new (Err (fault.TooLong len)) =
     (front old.limit old.held ≡ TooLong len) × Over old.limit old.held len × (new ≡ old)
-Takes old new (Err fault.Memory) = new ≡ old
+Takes old new (Err fault.Memory) = HoldsFrame old.limit old.held × (new ≡ old)
 
 -- what put_frame does: it appends the spelling of the frame, or changes nothing
 abbrev pub PutsFrame : List ℕ → List ℕ → ℕ → List ℕ → Result Unit FrameFault → Type 0

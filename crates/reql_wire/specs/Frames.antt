@@ -1,6 +1,6 @@
 -- Frames: a query token and a body's length in front of a body, numbers little endian (RethinkDB's
 -- guide on writing drivers, serialization).
-use Rattle.std.specs.Prelude.{◌≡◌, ℕ, ◌+◌, ◌<◌, ◌≤◌, ◌^◌, nat_lt, if◌then◌else◌, List, ◌++◌, length, take, drop, get_or}
+use Rattle.std.specs.Prelude.{◌≡◌, ℕ, ◌+◌, ◌<◌, ◌≤◌, ◌^◌, nat_lt, if◌then◌else◌, Bool, true, false, List, ◌++◌, length, take, drop, get_or}
 use Rattle.std.specs.List.{AllByRecursion, flat_map}
 use Rattle.byteorder.specs.Endian.{little_bytes, little_number}
 use Rattle.reql_wire.specs.declared.frame.Frame.{Frame}
@@ -59,6 +59,15 @@ front limit bytes =
     else Whole
     (record { token = token_of bytes; body = take (length_of bytes) (drop 12 bytes) })
     (drop (12 + length_of bytes) bytes)
+
+-- a whole frame stands at the front of these bytes
+abbrev pub is_whole : Front → Bool
+is_whole More = false
+is_whole (Whole frame rest) = true
+is_whole (TooLong len) = false
+
+abbrev pub HoldsFrame : ℕ → List ℕ → Type 0
+HoldsFrame limit bytes = is_whole (front limit bytes) ≡ true
 
 -- numbers that a byte can hold
 abbrev pub IsBytes : List ℕ → Type 0

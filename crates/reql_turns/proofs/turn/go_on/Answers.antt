@@ -17,4 +17,6 @@ returns-in-Err-TooLong-clause-goes g c = λ e.
     rw c.in-Err-TooLong.len-is (long_so (g.H.Handler.talk c.args.handler.now) _ _ c.args.feeder.now.held c.args.feeder.now.limit c.in-Err-TooLong.len e t.1)
 
 pub returns-in-Err-Memory-clause-goes : goal.returns-in-Err-Memory-clause-goes
-returns-in-Err-Memory-clause-goes g c = λ e. poor_so (g.H.Handler.talk c.args.handler.now) _ _ c.args.feeder.now.held
+returns-in-Err-Memory-clause-goes g c = λ e.
+    let t = rw c.in-Err-Memory.field-0-is at c.in-Err-Memory.ensures in
+    poor_so (g.H.Handler.talk c.args.handler.now) _ _ c.args.feeder.now.held c.args.feeder.now.limit e t.0
