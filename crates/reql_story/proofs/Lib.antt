@@ -1,8 +1,10 @@
+pub mod Closings
 pub mod Counts
 pub mod Feeding
 pub mod Fronts
 pub mod Going
 pub mod Orders
+pub mod Overs
 pub mod Rests
 pub mod Sendings
 pub mod Shelves

@@ -1,7 +1,8 @@
 -- What came in was handled in order.
 use Rattle.std.proofs.Common.{◌≡◌, ℕ, Bool, true, false, true≢false, List, [], ◌∷◌, ◌++◌, take, drop, Option, refl, sym, ap, subst, ◌∙◌, append_assoc, append-nil, inl, inr}
 use Rattle.std.proofs.lemmas.List.{take-append-drop}
-use Rattle.reql_wire.specs.Frames.{spelling, spellings}
+use Rattle.std.specs.List.{AllByRecursion}
+use Rattle.reql_wire.specs.Frames.{Fits, spelling, spellings}
 use Rattle.reql_wire.specs.Greeting.{Greets}
 use Rattle.reql_wire.specs.declared.greeter.Greeting.TheVariants as greeting
 use Rattle.reql_shared.specs.Acts.{Ran, Looked, Denied}
@@ -33,6 +34,8 @@ module _ {PL : Type 0} (k : Talk PL) where
     greeting = r.greeting;
     input = (λ i. sym h i ++ a i) ∙ r.input ∙ ap (λ z. r.greeting ++ (spellings z ++ n.held)) (sym b);
     began = began_of m.greeted x.greeted n.greeted r.greeting g r.began;
+    each = subst (AllByRecursion (Fits k.limits.frame)) (sym b) r.each;
+    before = λ f. b ∙ r.before f;
   }
 
   -- an equation of machines gives what is held and whether the greeting came
@@ -44,7 +47,7 @@ module _ {PL : Type 0} (k : Talk PL) where
   after_tell m back token kept after false = (refl, refl)
 
   pub handled : (m n : Mach PL) (es : List Event) → Run k m es n → Handled k m n es
-  handled m n [] r = record { greeting = []; input = append-nil m.held ∙ sym (held_of n m r).0; began = inl (refl, (held_of n m r).1) }
+  handled m n [] r = record { greeting = []; input = append-nil m.held ∙ sym (held_of n m r).0; began = inl (refl, (held_of n m r).1); each = tt; before = λ f. refl }
   handled m n (Turn ∷ es) r = let h = held_of _ _ r.1.1 in same m r.0 n Turn es refl refl h.0 h.1 (handled r.0 n es r.2)
   handled m n (Visit ∷ es) r = let h = held_of _ _ r.1.3 in same m r.0 n Visit es refl refl h.0 h.1 (handled r.0 n es r.2)
   handled m n (Greeted true ∷ es) r =
@@ -55,6 +58,8 @@ module _ {PL : Type 0} (k : Talk PL) where
           input = ap (λ z. z ++ heard es) (sym (take-append-drop g.0 m.held)) ∙ append_assoc (take g.0 m.held) (drop g.0 m.held) (heard es)
               ∙ ap (λ z. take g.0 m.held ++ (z ++ heard es)) (sym h.0) ∙ ap (λ z. take g.0 m.held ++ z) (rest.input ∙ ap (λ z. z ++ (spellings (begun es) ++ n.held)) more.0);
           began = inr (r.1.1, more.1 ∙ h.1, accepts m.held g.0 g.1);
+          each = rest.each;
+          before = rest.before;
         })
         | inr g ↦ (let h = held_of _ _ g.2 in same m r.0 n (Greeted true) es refl refl h.0 h.1 rest)
       ]
@@ -74,15 +79,17 @@ module _ {PL : Type 0} (k : Talk PL) where
         input = ap (λ z. z ++ heard es) s.4 ∙ append_assoc (spelling frame) s.0 (heard es) ∙ ap (λ z. spelling frame ++ (z ++ heard es)) (sym h.0)
             ∙ ap (λ z. spelling frame ++ z) (rest.input ∙ ap (λ z. z ++ (spellings (begun es) ++ n.held)) none) ∙ sym (append_assoc (spelling frame) (spellings (begun es)) n.held);
         began = inl (refl, more.1 ∙ h.1);
+        each = (s.3, rest.each);
+        before = λ f. absurd (true≢false (sym (more.1 ∙ h.1 ∙ s.2) ∙ f));
       }
   handled m n (Heard bytes ∷ es) r =
       let rest = handled r.0 n es r.2 in
       let h = held_of _ _ r.1.2 in
-      record { greeting = rest.greeting; input = sym (append_assoc m.held bytes (heard es)) ∙ ap (λ z. z ++ heard es) (sym h.0) ∙ rest.input; began = began_of m.greeted r.0.greeted n.greeted rest.greeting h.1 rest.began }
+      record { greeting = rest.greeting; input = sym (append_assoc m.held bytes (heard es)) ∙ ap (λ z. z ++ heard es) (sym h.0) ∙ rest.input; began = began_of m.greeted r.0.greeted n.greeted rest.greeting h.1 rest.began; each = rest.each; before = rest.before }
   handled m n (Lost bytes ∷ es) r =
       let rest = handled r.0 n es r.2 in
       let h = held_of _ _ r.1.2 in
-      record { greeting = rest.greeting; input = sym (append_assoc m.held bytes (heard es)) ∙ ap (λ z. z ++ heard es) (sym h.0) ∙ rest.input; began = began_of m.greeted r.0.greeted n.greeted rest.greeting h.1 rest.began }
+      record { greeting = rest.greeting; input = sym (append_assoc m.held bytes (heard es)) ∙ ap (λ z. z ++ heard es) (sym h.0) ∙ rest.input; began = began_of m.greeted r.0.greeted n.greeted rest.greeting h.1 rest.began; each = rest.each; before = rest.before }
   handled m n (Quiet ∷ es) r = let h = held_of _ _ r.1.1 in same m r.0 n Quiet es refl refl h.0 h.1 (handled r.0 n es r.2)
   handled m n (Finish ∷ es) r = let h = held_of _ _ r.1.1 in same m r.0 n Finish es refl refl h.0 h.1 (handled r.0 n es r.2)
   handled m n (Broken ∷ es) r = let h = held_of _ _ r.1.1 in same m r.0 n Broken es refl refl h.0 h.1 (handled r.0 n es r.2)

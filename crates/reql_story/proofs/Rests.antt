@@ -1,5 +1,5 @@
 -- What is held when a session leaves.
-use Rattle.std.proofs.Common.{ℕ, Bool, true, false, List, [], ◌∷◌, Option, Some, None, refl, sym, subst, inl, inr}
+use Rattle.std.proofs.Common.{ℕ, Bool, true, false, List, [], ◌∷◌, Option, Some, None, refl, sym, subst, inl, inr, arith}
 use Rattle.reql_shared.specs.Acts.{Ran, Looked, Denied}
 use Rattle.reql_story.specs.Requests.{Arm, SawNames, Clocked, SawSlot, ChangedNames, Rolled}
 use Rattle.reql_story.specs.Books.{saw_names}
@@ -26,7 +26,7 @@ module _ {PL : Type 0} (k : Talk PL) where
 
   left_end : (greeted : Bool) (held : List ℕ) → Unread k greeted held → LeftAs k (end_of held) greeted held
   left_end greeted [] u = (refl, u)
-  left_end greeted (b ∷ bs) u = (refl, u)
+  left_end greeted (b ∷ bs) u = (refl, omega arith, u)
 
   left_arm : (m n : Mach PL) (slot : ℕ) (arm : Arm) → LeavesArm k m slot arm n → IsLeft m → IsLeft n
   left_arm m n slot arm s h = subst IsLeft (sym s.goes) (subst (λ z. LeftWhen z m.greeted m.held) s.doing h)

@@ -1,8 +1,10 @@
 -- The laws of explained sessions.
-use Rattle.std.specs.Prelude.{◌≡◌, ◌≤◌, ◌<◌, ◌+◌, ◌⊎◌, ℕ, Bool, true, false, length, List, [], ◌∷◌, ◌++◌, take, flat_map, map, Some}
+use Rattle.std.specs.Prelude.{◌≡◌, ◌≤◌, ◌<◌, ◌+◌, ◌^◌, ◌⊎◌, ℕ, Bool, true, false, length, List, [], ◌∷◌, ◌++◌, take, drop, flat_map, map, Some}
+use Rattle.std.specs.List.{AllByRecursion}
 use Rattle.reql_datum.specs.Plain.{Plain}
-use Rattle.reql_wire.specs.Frames.{Over, spellings}
+use Rattle.reql_wire.specs.Frames.{Fits, Over, spellings}
 use Rattle.reql_wire.specs.Greeting.{Greets}
+use Rattle.reql_wire.specs.declared.frame.Frame.{Frame}
 use Rattle.reql_wire.specs.declared.greeter.Greeting.TheVariants as greeting
 use Rattle.reql_shared.specs.Acts.{Ran}
 use Rattle.reql_shared.specs.History.{own}
@@ -50,12 +52,14 @@ module _ {PL : Type 0} (k : Talk PL) where
   abbrev pub Began : Bool → Bool → List ℕ → Type 0
   Began before after bytes = ((bytes ≡ []) × (after ≡ before)) ⊎ ((before ≡ false) × (after ≡ true) × IsAccepted bytes)
 
-  -- What came is a greeting, where none had come and one was accepted, then the frames that were handled, in order, and then
-  -- what is held.
+  -- What came is a greeting, where none had come and one was accepted, then the frames that were handled, in order, each within
+  -- the limit, and then what is held. None is handled before a greeting was accepted.
   pub record Handled (m n : Mach PL) (es : List Event) : Type 0 where
     pub greeting : List ℕ
     pub input : m.held ++ heard es ≡ greeting ++ (spellings (begun es) ++ n.held)
     pub began : Began m.greeted n.greeted greeting
+    pub each : AllByRecursion (Fits k.limits.frame) (begun es)
+    pub before : n.greeted ≡ false → begun es ≡ []
 
   abbrev pub InOrder : Type 0
   InOrder = (m n : Mach PL) (es : List Event) → Run k m es n → Handled m n es
@@ -64,7 +68,7 @@ module _ {PL : Type 0} (k : Talk PL) where
   -- long, or the greeting that was refused. Of the other ends nothing is said.
   abbrev pub LeftAs : End → Bool → List ℕ → Type 0
   LeftAs ends.Closed greeted held = (held ≡ []) × Unread k greeted held
-  LeftAs (ends.Cut n) greeted held = (n ≡ length held) × Unread k greeted held
+  LeftAs (ends.Cut n) greeted held = (n ≡ length held) × (0 < n) × Unread k greeted held
   LeftAs (ends.Refused fault) greeted held = (greeted ≡ false) × Greets k.key held (greeting.Refused fault)
   LeftAs (ends.TooLong len) greeted held = (greeted ≡ true) × Over k.limits.frame held len
   LeftAs ends.ReadFault greeted held = Unread k greeted held
@@ -78,6 +82,41 @@ module _ {PL : Type 0} (k : Talk PL) where
   -- some bytes, is idle, or is the last.
   abbrev pub WornLate : Type 0
   WornLate = (share : DeskShare) (life : Life) → Explained k share life → life.end ≡ ends.Worn → k.limits.turns < ((length life.given + length life.given) + life.idles) + 2
+
+  -- a greeting that is accepted, then these frames, each within the limit, and nothing else
+  pub record Brings (bytes : List ℕ) (frames : List Frame) : Type 0 where
+    pub used : ℕ
+    pub greets : Greets k.key bytes (greeting.Accepted used)
+    pub each : AllByRecursion (Fits k.limits.frame) frames
+    pub behind : drop used bytes ≡ spellings frames
+
+  -- a valid input: nothing, or such a greeting and frames
+  abbrev pub IsValid : List ℕ → List Frame → Type 0
+  IsValid bytes frames = ((bytes ≡ []) × (frames ≡ [])) ⊎ Brings bytes frames
+
+  -- What is left of the frames of a valid input, of which so much was not given, at an end: none where the session closed, as its
+  -- input was over, and none where a receive failed after all was given; any where a send failed, memory was wanted, or more
+  -- came, or was idle, than all turns may take. There is no other end.
+  abbrev pub Leaves : Life → List ℕ → End → List Frame → Type 0
+  Leaves life more ends.Closed left = (left ≡ []) × (life.over ≡ true)
+  Leaves life more ends.ReadFault left = more ≡ [] → left ≡ []
+  Leaves life more ends.WriteFault left = Unit {0}
+  Leaves life more ends.Worn left = k.limits.turns < ((length life.given + length life.given) + life.idles) + 2
+  Leaves life more ends.Memory left = Unit {0}
+  Leaves life more end left = ⊥
+
+  -- the frames of a valid input, of which these were handled, the first ones, in order
+  pub record Closes (life : Life) (more : List ℕ) (frames handled : List Frame) : Type 0 where
+    pub left : List Frame
+    pub first : frames ≡ handled ++ left
+    pub ends : Leaves life more life.end left
+
+  -- What a session was given, with more to come only where its input wasn't over, is a valid input. Then it is never cut, refused
+  -- or told of a header that is too long: where no receive and no send fails, its turns are enough and there is room, it handles
+  -- every frame, and closes.
+  abbrev pub ValidCloses : Type 0
+  ValidCloses = (share : DeskShare) (life : Life) (e : Explained k share life) (more : List ℕ) (frames : List Frame)
+      → k.limits.frame < 2 ^ 32 → IsValid (life.given ++ more) frames → (life.over ≡ true → more ≡ []) → Closes life more frames (begun e.events)
 
   -- one more session lengthens what a desk did by its share
   abbrev pub OneMore : Type 0

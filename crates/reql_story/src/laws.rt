@@ -1,7 +1,7 @@
 // Laws of explained sessions.
 ghost use Rattle.reql_hall.specs.Shares.{IsKept};
 ghost use Rattle.reql_story.specs.Explained.{ExplainedBy};
-ghost use Rattle.reql_story.specs.Laws.{InOrder, FramesHandled, WornLate, OneMore, Learning, NothingLeft, FeedsHold};
+ghost use Rattle.reql_story.specs.Laws.{InOrder, FramesHandled, WornLate, ValidCloses, OneMore, Learning, NothingLeft, FeedsHold};
 
 use crate::planning::Planning;
 
@@ -21,6 +21,14 @@ pub fn frames_handled<F: Planning>()
 /// their limit: each turn takes a greeting, a frame or some bytes, is idle, or is the last.
 pub fn worn_late<F: Planning>()
     ensures { (f : F) → WornLate (F.talk f) }
+{}
+
+/// What a session was given, with more to come only where its input wasn't over, is valid where it is nothing, or a
+/// greeting that is accepted and then frames within the limit alone. Then the session handled the first of these frames,
+/// in order, and is never cut, refused or told of a header that is too long: it closed, as its input was over, with every
+/// frame handled, or a receive or a send failed, its turns were too few, or memory was wanted.
+pub fn valid_closes<F: Planning>()
+    ensures { (f : F) → ValidCloses (F.talk f) }
 {}
 
 /// A session that a hall explains is explained, with the same share, by each hall whose histories go on from there.

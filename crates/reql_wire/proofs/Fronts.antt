@@ -1,14 +1,14 @@
 use Rattle.std.proofs.Common.{◌≡◌, ℕ, ◌+◌, ◌-◌, ◌<◌, ◌≤◌, ◌^◌, ltb, Bool, true, false, cond, List, [], ◌∷◌, ◌++◌, length, take, drop, refl, sym, ap, subst, ◌∙◌, append_assoc, arith, length-append, length-drop, inl, inr, ◌⊎◌}
-use Rattle.std.proofs.lemmas.List.{get_or-take, get_or_past, take-append-drop, length-take-le, length-take, get_or-drop, drop-drop}
+use Rattle.std.proofs.lemmas.List.{drop-append-le, get_or-take, get_or_past, take-append-drop, length-take-le, length-take, get_or-drop, drop-drop}
 use Rattle.std.proofs.Math.Seq.{take-append_seam, drop-append_seam, drop-append-add}
 use Rattle.std.proofs.lemmas.Bool.{ltb-false, ltb-true, le-ltb, lt-ltb, cases_lt}
 use Rattle.std.proofs.lemmas.Nat.{le_bytes_4, le_bytes_8}
 use Rattle.std.specs.Int.{w32, w64, from_le_bytes}
 use Rattle.std.specs.List.{AllByRecursion}
 use Rattle.byteorder.specs.Endian.{little_bytes, little_number}
-use Rattle.byteorder.specs.Numbers.{little_from-lt, little_from-take, little_number-reads_back}
+use Rattle.byteorder.specs.Numbers.{little_from-append, little_from-lt, little_from-take, little_number-reads_back}
 use Rattle.reql_wire.specs.declared.frame.Frame.{Frame}
-use Rattle.reql_wire.specs.Frames.{Fits, NoFrame, Over, header, spelling, spellings, Front, More, Whole, TooLong, front, length_of, token_of, IsBytes}
+use Rattle.reql_wire.specs.Frames.{Fits, NoFrame, BeginsWith, Over, header, spelling, spellings, Front, More, Whole, TooLong, front, length_of, token_of, IsBytes}
 
 pub length-header : (token len : ℕ) → length (header token len) ≡ 12
 unfolding header
@@ -178,6 +178,12 @@ over_too_long limit bytes len o =
 pub over_no_frame : (limit : ℕ) (bytes : List ℕ) (len : ℕ) → limit < 2 ^ 32 → Over limit bytes len → NoFrame limit bytes
 over_no_frame limit bytes len h o = let e = over_too_long limit bytes len o in no_frame limit bytes h (λ frame rest w. cc)
 
+-- a header that is too long stands when more comes
+pub over_stands : (limit : ℕ) (bytes more : List ℕ) (len : ℕ) → Over limit bytes len → Over limit (bytes ++ more) len
+over_stands limit bytes more len o =
+    let same : length_of (bytes ++ more) ≡ length_of bytes = rw (drop-append-le 8 bytes more (omega (arith, o.room))) (little_from-append 4 (drop 8 bytes) more (omega (arith, o.room, length-drop 8 bytes))) in
+    record { room = omega (arith, o.room, length-append bytes more); field = same ∙ o.field; above = o.above }
+
 fronts_of : (limit : ℕ) (bytes : List ℕ) (f : Front) → IsBytes bytes → NoFrame limit bytes → front limit bytes ≡ f → (front limit bytes ≡ More) ⊎ ((len : ℕ) × Over limit bytes len)
 fronts_of limit bytes More each none e = inl e
 fronts_of limit bytes (Whole frame rest) each none e = let s = spelled_there limit bytes frame rest each e in absurd (none frame rest s.1 s.0)
@@ -208,3 +214,16 @@ once limit (f ∷ fs) (g ∷ gs) a b h p q na nb e =
     let after : spellings fs ++ a ≡ spellings gs ++ b = cc in
     let others = once limit fs gs a b h p.1 q.1 na nb after in
     (ap (λ x. x ∷ fs) first ∙ ap (λ xs. g ∷ xs) others.0, others.1)
+
+-- frames whose bytes begin with those of others
+pub first_of : (limit : ℕ) (fs gs : List Frame) (rest : List ℕ) → limit < 2 ^ 32 → AllByRecursion (Fits limit) fs → AllByRecursion (Fits limit) gs → spellings fs ≡ spellings gs ++ rest → BeginsWith limit fs gs rest
+first_of limit fs [] rest h p q e = record { left = fs; each = p; first = refl; spelled = sym e }
+first_of limit [] (g ∷ gs) rest h p q e =
+    absurd (omega (arith, ap length e, length-append (spelling g ++ spellings gs) rest, length-append (spelling g) (spellings gs), length-append (header g.token (length g.body)) g.body, length-header g.token (length g.body)))
+first_of limit (f ∷ fs) (g ∷ gs) rest h p q e =
+    let both : spelling f ++ spellings fs ≡ spelling g ++ (spellings gs ++ rest) = e ∙ append_assoc (spelling g) (spellings gs) rest in
+    let same : Whole f (spellings fs) ≡ Whole g (spellings gs ++ rest) = sym (front_spelling limit f (spellings fs) h p.0) ∙ ap (front limit) both ∙ front_spelling limit g (spellings gs ++ rest) h q.0 in
+    let first : f ≡ g = cc in
+    let after : spellings fs ≡ spellings gs ++ rest = cc in
+    let others = first_of limit fs gs rest h p.1 q.1 after in
+    record { left = others.left; each = others.each; first = ap (λ x. x ∷ fs) first ∙ ap (λ xs. g ∷ xs) others.first; spelled = others.spelled }

@@ -259,6 +259,30 @@ accepted_by_fields key bytes used w =
       eq-eqb (field_at (8 + field_at 4 bytes) bytes) protocol w.protocol_is,
     ) (ap (λ n. greeting.Accepted n) (sym w.used_is))
 
+-- an accepted greeting is accepted by its own bytes alone
+pub alone : (key bytes : List ℕ) (used : ℕ) → Greets key bytes (greeting.Accepted used) → (used ≤ length bytes) × Greets key (take used bytes) (greeting.Accepted used)
+alone key bytes used h =
+    let w = whole key bytes used h in
+    let own = take used bytes in
+    let more = drop used bytes in
+    let len = field_at 4 bytes in
+    let both : own ++ more ≡ bytes = take-append-drop used bytes in
+    let there : used ≤ length bytes = omega (arith, w.there, w.used_is) in
+    let size : length own ≡ used = length-take-le used bytes there in
+    let same : field_at 4 own ≡ len = sym (field_at-append 4 own more (omega (arith, w.used_is))) ∙ ap (field_at 4) both in
+    let key_there : take len (drop 8 own) ≡ take len (drop 8 bytes) =
+    sym (ap (take len) (drop-append-le 8 own more (omega (arith, w.used_is))) ∙ take-append-le len (drop 8 own) more (omega (arith, w.used_is, length-drop 8 own))) ∙ ap (λ t. take len (drop 8 t)) both in (
+      there,
+      accepted_by_fields key own used (record {
+        version_is = sym (field_at-append 0 own more (omega (arith, w.used_is))) ∙ ap (field_at 0) both ∙ w.version_is;
+        key_fits = rw same w.key_fits;
+        key_is = rw same (key_there ∙ w.key_is);
+        there = omega (arith, w.used_is);
+        protocol_is = rw same (sym (field_at-append (8 + len) own more (omega (arith, w.used_is))) ∙ ap (field_at (8 + len)) both ∙ w.protocol_is);
+        used_is = w.used_is ∙ ap (λ n. 12 + n) (sym same);
+      }),
+    )
+
 -- the fields of the greeting by a key, whatever follows it
 fields_by : (key rest : List ℕ) → length key ≤ longest_key → IsWhole key (field version ++ (field (length key) ++ (key ++ (field protocol ++ rest)))) (12 + length key)
 fields_by key rest h =

@@ -32,6 +32,13 @@ pub record Frames (limit : ℕ) (bytes : List ℕ) (list : List Frame) (rest : L
   pub joined : bytes ≡ spellings list ++ rest
   pub no_more : NoFrame limit rest
 
+-- frames within the limit begin with these others, and the rest of their bytes are those of the frames that are left
+pub record BeginsWith (limit : ℕ) (list first_ones : List Frame) (rest : List ℕ) : Type 0 where
+  pub left : List Frame
+  pub each : AllByRecursion (Fits limit) left
+  pub first : list ≡ first_ones ++ left
+  pub spelled : rest ≡ spellings left
+
 abbrev pub length_of : List ℕ → ℕ
 length_of bytes = little_number 4 (drop 8 bytes)
 

@@ -1,6 +1,7 @@
 ghost use Rattle.std.specs.Prelude.{◌≡◌, ◌<◌, ◌^◌, ◌-◌, ◌++◌, ◌↔◌, ◌⊎◌, ℕ, List};
-ghost use Rattle.reql_wire.specs.Frames.{Fits, Frames, IsBytes, NoFrame, Over};
-ghost use Rattle.reql_wire.specs.Frames.{More, TooLong, Whole, front, spelling};
+ghost use Rattle.std.specs.List.{AllByRecursion};
+ghost use Rattle.reql_wire.specs.Frames.{BeginsWith, Fits, Frames, IsBytes, NoFrame, Over};
+ghost use Rattle.reql_wire.specs.Frames.{More, TooLong, Whole, front, spelling, spellings};
 ghost use Rattle.reql_wire.specs.declared.frame.Frame.{Frame};
 
 /// A frame that was spelled is read again, whatever follows.
@@ -37,8 +38,22 @@ pub fn front_decides()
         (front limit bytes ≡ More) ⊎ ((len : ℕ) × Over limit bytes len) }
 {}
 
+/// A header that is too long is so when more bytes come.
+pub fn over_stands()
+    ensures { (limit : ℕ) (bytes more : List ℕ) (len : ℕ) →
+        Over limit bytes len → Over limit (bytes ++ more) len }
+{}
+
 /// Bytes have one reading as frames.
 pub fn frames_are_once()
     ensures { (limit : ℕ) (bytes : List ℕ) (fs gs : List Frame) (a b : List ℕ) →
         limit < 2 ^ 32 → Frames limit bytes fs a → Frames limit bytes gs b → (fs ≡ gs) × (a ≡ b) }
+{}
+
+/// Frames whose bytes begin with those of others begin with these, and what is left of the bytes is
+/// spelled by what is left of the frames.
+pub fn frames_begin_with()
+    ensures { (limit : ℕ) (fs gs : List Frame) (rest : List ℕ) → limit < 2 ^ 32 →
+        AllByRecursion (Fits limit) fs → AllByRecursion (Fits limit) gs →
+        spellings fs ≡ spellings gs ++ rest → BeginsWith limit fs gs rest }
 {}

@@ -1,4 +1,4 @@
-ghost use Rattle.std.specs.Prelude.{◌≡◌, ◌≤◌, ◌<◌, ◌+◌, ◌++◌, ℕ, List, length, drop};
+ghost use Rattle.std.specs.Prelude.{◌≡◌, ◌≤◌, ◌<◌, ◌+◌, ◌++◌, ℕ, List, length, take, drop};
 ghost use Rattle.reql_wire.specs.Frames.{IsBytes};
 ghost use Rattle.reql_wire.specs.Greeting.{Greets, greeting_by, kept, longest_greeting, longest_key};
 ghost use Rattle.reql_wire.specs.declared.greeter.Greeting.{Greeting};
@@ -31,4 +31,10 @@ pub fn one_greeting_by_a_key()
     ensures spelled { (key bytes : List ℕ) (used : ℕ) → IsBytes bytes →
         Greets key bytes (Accepted used) →
         (used ≡ 12 + length key) × (bytes ≡ greeting_by key ++ drop used bytes) }
+{}
+
+/// An accepted greeting is accepted by its own bytes, which are all there.
+pub fn greeting_is_its_own()
+    ensures { (key bytes : List ℕ) (used : ℕ) → Greets key bytes (Accepted used) →
+        (used ≤ length bytes) × Greets key (take used bytes) (Accepted used) }
 {}

@@ -18,9 +18,14 @@ mod writing;
 
 pub use feeder::Feeder;
 pub use frame::{Frame, WireFault};
-pub use frame_laws::{frames_are_once, front_decides, front_of_spelling, one_reading, spelled};
+pub use frame_laws::{
+    frames_are_once, frames_begin_with, front_decides, front_of_spelling, one_reading, over_stands,
+    spelled,
+};
 pub use greeter::{GreetFault, Greeter, Greeting, accepted_answer};
-pub use greeting_laws::{greeting_is_cut, one_greeting_by_a_key, one_verdict, verdict_stands};
+pub use greeting_laws::{
+    greeting_is_cut, greeting_is_its_own, one_greeting_by_a_key, one_verdict, verdict_stands,
+};
 pub use handshake::LONGEST_KEY;
 pub use reading::HEADER_BYTES;
 pub use writing::{FrameFault, put_frame};
