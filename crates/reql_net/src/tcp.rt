@@ -7,13 +7,16 @@ use reql_outside::{Link, Recv, Sending};
 use std::io::{self, ErrorKind, Read, Write};
 use std::marker::Model;
 use std::net::TcpStream;
-use std::time::Duration;
+use std::time::{Duration, Instant};
 
 // How long a receive waits.
 const READ_MILLIS: u64 = 20;
 
 // How long a send waits for a client that doesn't read.
 const WRITE_SECONDS: u64 = 30;
+
+// How long a client that has connected may say nothing.
+pub(crate) const SILENCE_SECONDS: u64 = 20;
 
 /// The counts of a link over TCP.
 #[derive(Clone, Copy, Debug, PartialEq, Eq)]
@@ -31,11 +34,16 @@ pub struct TcpRecord {
 /// A link over a TCP socket. It tells no bytes.
 ///
 /// A `recv` is idle after 20 milliseconds, or at once where its session waits for a change and the
-/// bell rings. A `send` to a client that reads nothing for 30 seconds fails.
+/// bell rings. The input ends where no byte has come for 20 seconds after the client was accepted. A
+/// `send` to a client that reads nothing for 30 seconds fails; to one that is gone it fails at once,
+/// and raises no signal.
 #[derive(Drop)]
 pub struct TcpLink {
+    rt: HostRuntime,
     stream: TcpStream,
     ear: Ear,
+    // when the client was accepted, as long as no byte has come
+    pub(crate) silent_since: Option<Instant>,
     counts: TcpRecord,
 }
 
@@ -88,16 +96,19 @@ fn write_within<W: Write>(output: &mut W, piece: &[u8]) -> usize
 }
 
 impl TcpLink {
-    /// A link over the socket.
-    pub(crate) fn new(stream: TcpStream, ear: Ear) -> io::Result<TcpLink>
+    /// A link over the socket of a client that is accepted now.
+    pub(crate) fn new(rt: HostRuntime, stream: TcpStream, ear: Ear) -> io::Result<TcpLink>
         ensures fresh { IfOk result (λ l. IsFresh l) }
     {
         stream.set_nodelay(true)?;
         stream.set_read_timeout(Some(Duration::from_millis(READ_MILLIS)))?;
         stream.set_write_timeout(Some(Duration::from_secs(WRITE_SECONDS)))?;
+        let silent_since = Some(Instant::now(&rt)?);
         Ok(TcpLink {
+            rt,
             stream,
             ear,
+            silent_since,
             counts: TcpRecord {
                 faults_in: 0,
                 faults_out: 0,
@@ -117,6 +128,17 @@ impl TcpLink {
         match self.ear.wait(READ_MILLIS) {
             Woken::Socket => true,
             Woken::Bell => false,
+        }
+    }
+
+    // Whether the client has said nothing for so long that nothing is awaited of it any more.
+    fn is_given_up(&self) -> bool {
+        let Some(since) = self.silent_since else {
+            return false;
+        };
+        match since.elapsed(&self.rt) {
+            Ok(time) => time >= Duration::from_secs(SILENCE_SECONDS),
+            Err(_) => false,
         }
     }
 }
@@ -148,7 +170,14 @@ impl Link for TcpLink {
                 self.counts.over = true;
                 Recv::End
             }
-            Came::Bytes(n) => Recv::Got(n),
+            Came::Bytes(n) => {
+                self.silent_since = None;
+                Recv::Got(n)
+            }
+            Came::Nothing if self.is_given_up() => {
+                self.counts.over = true;
+                Recv::End
+            }
             Came::Nothing => {
                 self.counts.idles = self.counts.idles.saturating_add(1);
                 Recv::Idle
@@ -187,8 +216,10 @@ impl Link for TcpLink {
 
     fn finish(self) -> TcpRecord {
         let TcpLink {
+            rt: _,
             stream: _,
             ear: _,
+            silent_since: _,
             counts,
         } = self;
         counts

@@ -66,7 +66,7 @@ impl TcpDoor {
     {
         let bell = Arc::try_clone(&self.bell)?;
         let ear = Ear::new(self.rt.alloc(), &self.rt, bell, stream.as_raw_fd())?;
-        let link = TcpLink::new(stream, ear)?;
+        let link = TcpLink::new(self.rt, stream, ear)?;
         Ok(link)
     }
 

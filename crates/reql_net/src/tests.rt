@@ -1,6 +1,7 @@
 ghost use Rattle.std.specs.Prelude.{◌≡◌, IfOk};
 ghost use Rattle.reql_net.specs.Doors.{untouched};
 
+use crate::tcp::SILENCE_SECONDS;
 use crate::{Accept, Door, MemDoor, MemNet, Net, NetFault, Post, TcpDoor, TcpLink, TcpNet};
 use reql_outside::{Link, MemClock, MemDice, MemLink, Recv, send_all};
 use std::alloc::Global;
@@ -105,6 +106,48 @@ fn a_link_that_waits_is_woken_by_a_change_alone(rt: HostRuntime) -> Result<(), F
     }
     assert!(rt; begun.elapsed(&rt)? >= Duration::from_millis(200));
     drop((first, second));
+    Ok(())
+}
+
+// A link whose client was accepted so many seconds ago, and says nothing.
+fn silent_for(rt: &HostRuntime, link: &mut TcpLink, seconds: u64) -> Result<Recv, Fail> {
+    let now = Instant::now(rt)?;
+    link.silent_since = now.checked_sub(Duration::from_secs(seconds));
+    Ok(link.recv(&mut [0u8; 16]))
+}
+
+#[test]
+fn a_client_that_says_nothing_is_given_up(rt: HostRuntime) -> Result<(), Fail> {
+    let mut door = one_door(rt)?;
+    let (mut one, silent) = joined(&rt, &mut door)?;
+    let (mut other, mut speaking) = joined(&rt, &mut door)?;
+    let early = silent_for(&rt, &mut one, SILENCE_SECONDS - 1)?;
+    let late = silent_for(&rt, &mut one, SILENCE_SECONDS)?;
+    assert_eq!(rt;
+        (early, late, one.recv(&mut [0u8; 16])),
+        (Recv::Idle, Recv::End, Recv::End)
+    );
+    // one that has said something may be silent for as long as it likes
+    speaking.write(b"a")?;
+    let said = silent_for(&rt, &mut other, SILENCE_SECONDS)?;
+    let quiet = other.recv(&mut [0u8; 16]);
+    assert_eq!(rt; (said, quiet), (Recv::Got(1), Recv::Idle));
+    assert_eq!(rt; other.silent_since.is_none(), true);
+    drop((silent, speaking));
+    Ok(())
+}
+
+#[test]
+fn a_send_to_a_client_that_is_gone_fails(rt: HostRuntime) -> Result<(), Fail> {
+    let mut door = one_door(rt)?;
+    let (mut link, client) = joined(&rt, &mut door)?;
+    drop(client);
+    let mut failed = false;
+    for _ in 0..1000 {
+        failed = failed || !send_all(&mut link, b"answer");
+    }
+    let record = link.finish();
+    assert_eq!(rt; (failed, 0 < record.faults_out), (true, true));
     Ok(())
 }
 
