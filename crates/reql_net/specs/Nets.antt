@@ -1,24 +1,27 @@
 -- What a net tells of itself.
-use Rattle.std.specs.Prelude.{◌≡◌, ℕ, Option, Some, None}
+use Rattle.std.specs.Prelude.{◌≡◌, ℕ, ℤ, Bool, true, List, Option, Some, None}
+use Rattle.reql_outside.specs.Source.{Source}
 use Rattle.reql_outside.specs.Tape.{counted}
 use Rattle.reql_net.specs.Doors.{DoorTold, untouched}
 use Rattle.reql_net.specs.declared.net.NetFault.{NetFault}
 use Rattle.reql_net.specs.declared.net.NetFault.TheVariants as fault
 use Rattle.reql_net.specs.declared.net.Post.{Post}
 
--- how often it was asked, the port and the number of posts of the last time, and how often it failed
+-- how often it was asked, the port and the number of posts of the last time, how often it failed, and whether the dice and clocks
+-- of its posts are sound, which no call changes
 pub record NetTold : Type 0 where
   pub asked : ℕ
   pub last : Option (ℕ × ℕ)
   pub faults : ℕ
+  pub sound : Bool
 
 -- a net before its first call
-abbrev pub unasked : NetTold
-unasked = record { asked = 0; last = None; faults = 0 }
+abbrev pub unasked : Bool → NetTold
+unasked sound = record { asked = 0; last = None; faults = 0; sound = sound }
 
 -- one call, which failed so often
 abbrev pub asks : NetTold → ℕ → ℕ → ℕ → NetTold
-asks old port n failed = record { asked = counted old.asked 1; last = Some (port, n); faults = counted old.faults failed }
+asks old port n failed = record old { asked = counted old.asked 1; last = Some (port, n); faults = counted old.faults failed }
 
 -- it failed, or not
 abbrev pub Counts : NetTold → NetTold → ℕ → ℕ → NetFault → Type 0
@@ -28,3 +31,7 @@ Counts old new port n fault.Memory = new ≡ asks old port n 0
 -- the door of a post has given nothing
 abbrev pub IsUntouched : {R D T : Type 0} → (R → DoorTold) → Post R D T → Type 0
 IsUntouched told post = told post.door ≡ untouched
+
+-- the dice and the clock of a post never fail
+abbrev pub IsSound : {R D T : Type 0} → (D → Source (List ℕ)) → (T → Source ℤ) → Post R D T → Type 0
+IsSound rolled told post = ((rolled post.dice).sound ≡ true) × ((told post.clock).sound ≡ true)

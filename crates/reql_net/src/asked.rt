@@ -5,12 +5,13 @@ ghost use Rattle.reql_net.specs.Nets.{asks, unasked};
 
 use std::marker::Model;
 
-/// How often a net was asked, for what the last time, and how often it failed.
+/// How often a net was asked, for what the last time, how often it failed, and whether it is sound.
 #[derive(Drop)]
 pub(crate) struct Asked {
     asked: u64,
     last: Option<(u16, u32)>,
     faults: u64,
+    sound: bool,
 }
 
 impl Model for Asked {
@@ -18,18 +19,19 @@ impl Model for Asked {
 
     ghost Value = { NetTold };
 
-    ghost view = { λ a. record { asked = a.asked; last = a.last; faults = a.faults } };
+    ghost view = { λ a. record { asked = a.asked; last = a.last; faults = a.faults; sound = a.sound } };
 }
 
 impl Asked {
     /// Of a net that was never asked.
-    pub(crate) fn new() -> Asked
-        ensures { result ≡ unasked }
+    pub(crate) fn new(sound: bool) -> Asked
+        ensures { result ≡ unasked sound }
     {
         Asked {
             asked: 0,
             last: None,
             faults: 0,
+            sound,
         }
     }
 

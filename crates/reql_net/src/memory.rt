@@ -1,5 +1,5 @@
 // Doors and nets in memory, which hand out their lists.
-ghost use Rattle.std.specs.Prelude.{◌≡◌, length, IfOk, OnErr};
+ghost use Rattle.std.specs.Prelude.{◌≡◌, length, false, IfOk, OnErr};
 ghost use Rattle.std.specs.List.{All};
 ghost use Rattle.reql_outside.specs.Tape.{IsFresh};
 ghost use Rattle.reql_net.specs.Doors.{opening, Opens, Hands};
@@ -97,6 +97,7 @@ pub struct MemNet {
 }
 
 impl Model for MemNet {
+    ghost use Rattle.std.specs.Prelude.{◌≡◌, false};
     ghost use Rattle.std.specs.List.{All};
     ghost use Rattle.reql_net.specs.Nets.{NetTold, IsUntouched};
 
@@ -104,21 +105,21 @@ impl Model for MemNet {
 
     ghost view = { λ n. n.told };
 
-    ghost invariant = { λ n. All (IsUntouched (λ d. d.told)) n.posts.items };
+    ghost invariant = { λ n. All (IsUntouched (λ d. d.told)) n.posts.items × (n.told.sound ≡ false) };
 }
 
 impl MemNet {
     /// A net that gives these, whose doors have given nothing; the k-th call, from 0, fails where k is in
-    /// the list. It takes no memory.
+    /// the list. It isn't sound. It takes no memory.
     pub fn new(posts: Vec<Post<MemDoor, MemDice, MemClock>>, fails: Vec<u64>) -> MemNet
         requires { All (IsUntouched (λ d. d.told)) posts.items }
-        ensures { result ≡ unasked }
+        ensures { result ≡ unasked false }
     {
         MemNet {
             posts,
             calls: 0,
             fails,
-            told: Asked::new(),
+            told: Asked::new(false),
         }
     }
 }

@@ -1,7 +1,7 @@
 // Nets: where doors come from.
-ghost use Rattle.std.specs.Prelude.{◌≡◌, length, IfOk, IfErr};
+ghost use Rattle.std.specs.Prelude.{◌≡◌, length, true, IfOk, IfErr};
 ghost use Rattle.std.specs.List.{All};
-ghost use Rattle.reql_net.specs.Nets.{NetTold, IsUntouched, asks, Counts};
+ghost use Rattle.reql_net.specs.Nets.{NetTold, IsUntouched, IsSound, asks, Counts};
 
 use crate::door::Door;
 use reql_memory::Memory;
@@ -35,7 +35,8 @@ pub trait Net {
     type Clock: Clock;
 
     /// What the net tells of itself: how often it was asked, the port and the number of the last time,
-    /// and how often it failed.
+    /// how often it failed, and whether it is sound. The dice and clocks of a sound net never answer
+    /// Failed, and a net is sound from its making on, or never.
     ghost told: { Self → NetTold };
 
     /// So many posts for a port, one a worker, whose doors share it and have given nothing yet.
@@ -47,6 +48,7 @@ pub trait Net {
     ) -> Result<Vec<Post<Self::Door, Self::Dice, Self::Clock>>, NetFault>
         ensures count { IfOk result (λ posts. length posts.items ≡ n) }
         ensures untouched { IfOk result (λ posts. All (IsUntouched Self.Door.told) posts.items) }
+        ensures sound { IfOk result (λ posts. (told self.old).sound ≡ true → All (IsSound Self.Dice.told Self.Clock.told) posts.items) }
         ensures asked { IfOk result (λ posts. told self.new ≡ asks (told self.old) port n 0) }
         ensures failed { IfErr result (Counts (told self.old) (told self.new) port n) };
 }

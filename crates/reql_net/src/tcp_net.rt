@@ -1,5 +1,5 @@
 // Doors and nets over TCP on the loopback address.
-ghost use Rattle.std.specs.Prelude.{◌≡◌, length, IfOk, IfSome};
+ghost use Rattle.std.specs.Prelude.{◌≡◌, length, false, IfOk, IfSome};
 ghost use Rattle.std.specs.List.{All};
 ghost use Rattle.reql_outside.specs.Tape.{IsFresh};
 ghost use Rattle.reql_net.specs.Doors.{untouched};
@@ -102,7 +102,7 @@ impl Door for TcpDoor {
 }
 
 /// A net over TCP on the address 127.0.0.1. The doors of one call share a listener, and all links of
-/// the net one bell.
+/// the net one bell. It isn't sound.
 #[derive(Drop)]
 pub struct TcpNet {
     rt: HostRuntime,
@@ -111,24 +111,27 @@ pub struct TcpNet {
 }
 
 impl Model for TcpNet {
+    ghost use Rattle.std.specs.Prelude.{◌≡◌, false};
     ghost use Rattle.reql_net.specs.Nets.{NetTold};
 
     ghost Value = { NetTold };
 
     ghost view = { λ n. n.told };
+
+    ghost invariant = { λ n. n.told.sound ≡ false };
 }
 
 impl TcpNet {
     /// The net of this machine.
     pub fn new(rt: HostRuntime) -> io::Result<TcpNet>
-        ensures { IfOk result (λ n. n ≡ unasked) }
+        ensures { IfOk result (λ n. n ≡ unasked false) }
     {
         let alloc = rt.alloc();
         let bell = Arc::new(alloc, Bell::new(alloc, &rt)?)?;
         Ok(TcpNet {
             rt,
             bell,
-            told: Asked::new(),
+            told: Asked::new(false),
         })
     }
 
