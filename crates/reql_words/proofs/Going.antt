@@ -1,8 +1,8 @@
 -- One option with its value, and the others after it; and a table among those that were named.
-use Rattle.std.proofs.Common.{◌≡◌, ℕ, suc, Bool, true, false, ◌||◌, ◌&&◌, not, cond, nat_lt, List, [], ◌∷◌, ◌++◌, length, map, Option, Some, Result, Ok, Err, refl, sym, ap, subst, ◌∙◌}
+use Rattle.std.proofs.Common.{◌≡◌, ℕ, suc, Bool, true, false, ◌||◌, ◌&&◌, not, cond, nat_lt, List, [], ◌∷◌, ◌++◌, length, map, Some, Result, Ok, Err, refl, sym, ap, subst, ◌∙◌}
 use Rattle.std.specs.Borrow.{Bor}
 use Rattle.std.specs.List.{list_any}
-use Rattle.reql_words.specs.Words.{Said, SaysAll, asks_options, goes_on, is_one_more, is_pair, most_tables, named, one_more, table_in, with_option, with_table}
+use Rattle.reql_words.specs.Words.{Said, SaysAll, Wrong, asks_options, goes_on, is_one_more, is_pair, most_tables, named, one_more, table_in, with_option, with_table}
 use Rattle.reql_words.specs.declared.words.Refusal.{Refusal}
 
 -- two words, as a slice is taken apart
@@ -33,16 +33,17 @@ more f (y ∷ ys) x = ap (λ zs. f y ∷ zs) (more f ys x)
 may : (p : List ℕ × List ℕ) (xs : List (Bor (List ℕ) × Bor (List ℕ))) → (nat_lt (length (map named xs)) most_tables && not (list_any (is_pair p) (map named xs))) ≡ is_one_more p xs
 may p xs = ap (λ n. nat_lt n most_tables && not (list_any (is_pair p) (map named xs))) (many named xs) ∙ ap (λ b. nat_lt (length xs) most_tables && not b) (any_of (is_pair p) named xs)
 
-by_may : (value : List ℕ) (key : Option (List ℕ)) (p : List ℕ × List ℕ) (xs : List (Bor (List ℕ) × Bor (List ℕ))) (b : Bool) → is_one_more p xs ≡ b
-    → one_more value (record { key = key; tables = map named xs }) (Some p) ≡ cond b (Ok (record { key = key; tables = map named xs ++ p ∷ [] })) (Err value)
-by_may value key p xs b is = ap (λ c. cond c (Ok (record { key = key; tables = map named xs ++ p ∷ [] })) (Err value)) (may p xs ∙ is)
+by_may : (value : List ℕ) (said : Said) (p : List ℕ × List ℕ) (xs : List (Bor (List ℕ) × Bor (List ℕ))) (b : Bool) → said.tables ≡ map named xs → is_one_more p xs ≡ b
+    → one_more value said (Some p) ≡ cond b (Ok (record said { tables = said.tables ++ p ∷ [] })) (Err (Wrong value))
+by_may value said p xs b are is = ap (λ c. cond c (Ok (record said { tables = said.tables ++ p ∷ [] })) (Err (Wrong value)))
+    (ap (λ ts. nat_lt (length ts) most_tables && not (list_any (is_pair p) ts)) are ∙ may p xs ∙ is)
 
 -- a table that may not be named, and one that is
-pub no_more : (value : List ℕ) (key : Option (List ℕ)) (p : List ℕ × List ℕ) (xs : List (Bor (List ℕ) × Bor (List ℕ))) → table_in value ≡ Some p → is_one_more p xs ≡ false
-    → with_table value (record { key = key; tables = map named xs }) ≡ Err value
-no_more value key p xs is none = ap (λ t. one_more value (record { key = key; tables = map named xs }) t) is ∙ by_may value key p xs false none
+pub no_more : (value : List ℕ) (said : Said) (p : List ℕ × List ℕ) (xs : List (Bor (List ℕ) × Bor (List ℕ))) → said.tables ≡ map named xs → table_in value ≡ Some p → is_one_more p xs ≡ false
+    → with_table value said ≡ Err (Wrong value)
+no_more value said p xs are is none = ap (λ t. one_more value said t) is ∙ by_may value said p xs false are none
 
-pub goes_in : (value : List ℕ) (key : Option (List ℕ)) (t : Bor (List ℕ) × Bor (List ℕ)) (xs ys : List (Bor (List ℕ) × Bor (List ℕ))) → table_in value ≡ Some (named t) → is_one_more (named t) xs ≡ true → ys ≡ xs ++ t ∷ []
-    → with_table value (record { key = key; tables = map named xs }) ≡ Ok (record { key = key; tables = map named ys })
-goes_in value key t xs ys is may put = ap (λ u. one_more value (record { key = key; tables = map named xs }) u) is ∙ by_may value key (named t) xs true may
-    ∙ ap (λ l. Ok (record { key = key; tables = l })) (sym (more named xs t) ∙ ap (λ l. map named l) (sym put))
+pub goes_in : (value : List ℕ) (said : Said) (t : Bor (List ℕ) × Bor (List ℕ)) (xs ys : List (Bor (List ℕ) × Bor (List ℕ))) → said.tables ≡ map named xs → table_in value ≡ Some (named t) → is_one_more (named t) xs ≡ true → ys ≡ xs ++ t ∷ []
+    → with_table value said ≡ Ok (record said { tables = map named ys })
+goes_in value said t xs ys are is may put = ap (λ u. one_more value said u) is ∙ by_may value said (named t) xs true are may
+    ∙ ap (λ l. Ok (record said { tables = l })) (ap (λ ts. ts ++ named t ∷ []) are ∙ sym (more named xs t) ∙ ap (λ l. map named l) (sym put))

@@ -3,14 +3,86 @@ use std::alloc::Global;
 use std::test::Fail;
 
 // Words, and what they ask for, as `shown` says it.
-const CASES: [(&[&str], &str); 34] = [
+const CASES: [(&[&str], &str); 65] = [
     (&[], "a command is missing"),
     (&["--help"], "help"),
     (&["--help", "stdio"], "wrong `stdio`"),
     (&["--version"], "version"),
     (&["--version", "--help"], "wrong `--help`"),
     (&[""], "wrong ``"),
-    (&["listen", "--port", "28015"], "wrong `listen`"),
+    (
+        &["listen", "--port", "28015"],
+        "listen 28015 4 4294967295 ``",
+    ),
+    (
+        &[
+            "listen",
+            "--table",
+            "b.z",
+            "--sessions",
+            "4294967295",
+            "--key",
+            "k",
+            "--workers",
+            "64",
+            "--table",
+            "a.y",
+            "--port",
+            "65535",
+        ],
+        "listen 65535 64 4294967295 `k` b/z a/y",
+    ),
+    (
+        &["listen", "--port", "1", "--workers", "1", "--sessions", "1"],
+        "listen 1 1 1 ``",
+    ),
+    (&["listen"], "a port is missing"),
+    (&["listen", "--workers", "2"], "a port is missing"),
+    (&["listen", "--port"], "a port is missing"),
+    (&["listen", "--port", "1", "--port"], "wrong `--port`"),
+    (&["listen", "--port", "1", "--port", "1"], "wrong `--port`"),
+    (&["listen", "--workers"], "a number of workers is missing"),
+    (
+        &["listen", "--workers", "1", "--workers"],
+        "wrong `--workers`",
+    ),
+    (
+        &["listen", "--workers", "1", "--workers", "1"],
+        "wrong `--workers`",
+    ),
+    (&["listen", "--sessions"], "a number of sessions is missing"),
+    (
+        &["listen", "--sessions", "1", "--sessions"],
+        "wrong `--sessions`",
+    ),
+    (
+        &["listen", "--sessions", "1", "--sessions", "1"],
+        "wrong `--sessions`",
+    ),
+    (&["listen", "28015"], "wrong `28015`"),
+    (&["listen", "--port", "28015", "stdio"], "wrong `stdio`"),
+    (&["listen", "--help", "1"], "wrong `--help`"),
+    (&["listen", "--port", "0"], "`0` isn't 1 to 65535"),
+    (&["listen", "--port", "65536"], "`65536` isn't 1 to 65535"),
+    (&["listen", "--port", ""], "`` isn't 1 to 65535"),
+    (&["listen", "--port", "028015"], "`028015` isn't 1 to 65535"),
+    (&["listen", "--port", "+1"], "`+1` isn't 1 to 65535"),
+    (&["listen", "--port", "-1"], "`-1` isn't 1 to 65535"),
+    (&["listen", "--port", "1e3"], "`1e3` isn't 1 to 65535"),
+    (&["listen", "--port", "١"], "`١` isn't 1 to 65535"),
+    (
+        &["listen", "--port", "18446744073709551617"],
+        "`18446744073709551617` isn't 1 to 65535",
+    ),
+    (&["listen", "--workers", "0"], "`0` isn't 1 to 64"),
+    (&["listen", "--workers", "65"], "`65` isn't 1 to 64"),
+    (&["listen", "--sessions", "0"], "`0` isn't 1 to 4294967295"),
+    (
+        &["listen", "--sessions", "4294967296"],
+        "`4294967296` isn't 1 to 4294967295",
+    ),
+    (&["listen", "--table", "docs"], "wrong `docs`"),
+    (&["stdio", "--workers"], "wrong `--workers`"),
     (&["load", "1", "2"], "wrong `load`"),
     (&["--key", "k", "stdio"], "wrong `--key`"),
     (&["stdio"], "stdio ``"),
@@ -70,21 +142,45 @@ fn missing(what: Wanted) -> &'static str {
         Wanted::Command => "a command is missing",
         Wanted::Key => "a key is missing",
         Wanted::TableName => "a table is missing",
+        Wanted::Port => "a port is missing",
+        Wanted::Workers => "a number of workers is missing",
+        Wanted::Sessions => "a number of sessions is missing",
     }
+}
+
+fn with_tables(alloc: Global, text: String, tables: &[(&str, &str)]) -> Result<String, Fail> {
+    let mut text = text;
+    for (db, table) in tables {
+        text.push_str(&format!(in alloc; " {db}/{table}")?)?;
+    }
+    Ok(text)
 }
 
 fn shown(alloc: Global, command: &Command<'_>) -> Result<String, Fail> {
     match command {
         Command::Stdio { key, tables } => {
-            let mut text = format!(in alloc; "stdio `{key}`")?;
-            for (db, table) in tables.as_slice() {
-                text.push_str(&format!(in alloc; " {db}/{table}")?)?;
-            }
-            Ok(text)
+            with_tables(
+                alloc,
+                format!(in alloc; "stdio `{key}`")?,
+                tables.as_slice(),
+            )
+        }
+        Command::Listen {
+            port,
+            workers,
+            sessions,
+            key,
+            tables,
+        } => {
+            let text = format!(in alloc; "listen {port} {workers} {sessions} `{key}`")?;
+            with_tables(alloc, text, tables.as_slice())
         }
         Command::Help => Ok(String::from_str(alloc, "help")?),
         Command::Version => Ok(String::from_str(alloc, "version")?),
         Command::Refused(Refusal::Wrong { word }) => Ok(format!(in alloc; "wrong `{word}`")?),
+        Command::Refused(Refusal::NotWithin { word, least, most }) => {
+            Ok(format!(in alloc; "`{word}` isn't {least} to {most}")?)
+        }
         Command::Refused(Refusal::Missing { what }) => {
             Ok(String::from_str(alloc, missing(*what))?)
         }

@@ -2,7 +2,7 @@
 ghost use Rattle.std.specs.Prelude.{map, string_bytes};
 ghost use Rattle.reql_words.specs.Words.{Asks, Says, asks, asks_options, ends_in, said_nothing};
 
-use crate::options::{Options, say_all};
+use crate::options::{Options, Server, say_all};
 use crate::tables::Tables;
 
 /// What is wanted where the words end too early.
@@ -13,15 +13,32 @@ pub enum Wanted {
     Key,
     /// The table after `--table`.
     TableName,
+    /// The port after `--port`, without which no server listens.
+    Port,
+    /// The number of workers after `--workers`.
+    Workers,
+    /// The number of sessions after `--sessions`.
+    Sessions,
 }
 
 /// Why words ask for nothing.
 #[derive(Clone, Copy, Debug, PartialEq, Eq)]
 pub enum Refusal<'a> {
     /// This word, the first such, can't stand where it does.
-    Wrong { word: &'a str },
+    Wrong {
+        word: &'a str,
+    },
+    /// In place of this word, the first such, a number from the least to the most is wanted, in decimal
+    /// digits without a sign or a needless zero before them.
+    NotWithin {
+        word: &'a str,
+        least: u64,
+        most: u64,
+    },
     /// The words end where this is wanted.
-    Missing { what: Wanted },
+    Missing {
+        what: Wanted,
+    },
 }
 
 /// What the words ask for.
@@ -29,7 +46,19 @@ pub enum Refusal<'a> {
 pub enum Command<'a> {
     /// Serve one session over standard input and output to who has this authorization key, with
     /// these tables: each once, by its database and its name, in the order of the words.
-    Stdio { key: &'a str, tables: Tables<'a> },
+    Stdio {
+        key: &'a str,
+        tables: Tables<'a>,
+    },
+    /// Serve so many sessions in all, 1 to 4294967295, as they connect to this port, 1 to 65535, so
+    /// many at a time as there are workers, 1 to 64. The key and the tables are as above.
+    Listen {
+        port: u16,
+        workers: u32,
+        sessions: u64,
+        key: &'a str,
+        tables: Tables<'a>,
+    },
     /// Say how to use the program.
     Help,
     /// Say which version of the program this is.
@@ -38,8 +67,11 @@ pub enum Command<'a> {
     Refused(Refusal<'a>),
 }
 
-/// What the words ask for: `stdio [--key K] [--table DB.NAME]..`, its options in any order, `--help`
-/// or `--version`, each alone. A key has at most 1024 bytes, and there are at most 256 tables. It takes no memory.
+/// What the words ask for: `stdio [--key K] [--table DB.NAME]..` or
+/// `listen --port P [--workers W] [--sessions S] [--key K] [--table DB.NAME]..`, the options in any
+/// order, `--help` or `--version`, each alone. A key has at most 1024 bytes, there are at most 256
+/// tables, P is 1 to 65535, W is 1 to 64 and 4 where it isn't said, and S is 1 to 4294967295, and this
+/// where it isn't said. It takes no memory.
 pub fn command_of(words: &[String]) -> Command<'_>
     ensures { Says (asks (map string_bytes words.now)) result }
 {
@@ -49,18 +81,19 @@ pub fn command_of(words: &[String]) -> Command<'_>
         });
     };
     match first.as_str() {
-        "stdio" => stdio_of(rest),
+        "stdio" => server_of(Server::Stdio, rest),
+        "listen" => server_of(Server::Listen, rest),
         "--help" => ended(Command::Help, rest),
         "--version" => ended(Command::Version, rest),
         word => Command::Refused(Refusal::Wrong { word }),
     }
 }
 
-// What the options of `stdio` ask for.
-fn stdio_of(words: &[String]) -> Command<'_>
-    ensures { Says (asks_options (map string_bytes words.now) said_nothing) result }
+// What the options of a server ask for.
+fn server_of(server: Server, words: &[String]) -> Command<'_>
+    ensures { Says (asks_options (map string_bytes words.now) (said_nothing server)) result }
 {
-    let mut said = Options::new();
+    let mut said = Options::new(server);
     match say_all(words, &mut said) {
         Ok(()) => said.served(),
         Err(refusal) => Command::Refused(refusal),

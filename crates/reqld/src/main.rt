@@ -42,12 +42,17 @@ memory, 9 a request was too long.
 
 const RIGHT: &str = "reqld stdio [--key KEY] [--table DB.NAME].., --help or --version";
 
+const NO_LISTEN: &str = "listen, for clients over TCP, is not served yet";
+
 // What is wanted where the words end too early, as a message says it.
 fn wanted(what: Wanted) -> &'static str {
     match what {
         Wanted::Command => "a command",
         Wanted::Key => "a key after --key",
         Wanted::TableName => "a table, DB.NAME, after --table",
+        Wanted::Port => "a port, 1 to 65535, after --port",
+        Wanted::Workers => "a number of workers, 1 to 64, after --workers",
+        Wanted::Sessions => "a number of sessions, 1 to 4294967295, after --sessions",
     }
 }
 
@@ -76,6 +81,10 @@ fn complain(rt: &HostRuntime, refusal: Refusal<'_>) -> ExitCode {
         Refusal::Wrong { word } => {
             eprintln!(rt; "reqld: unexpected word `{word}`; right would be: {RIGHT}")
         }
+        Refusal::NotWithin { word, least, most } => eprintln!(rt;
+            "reqld: unexpected word `{word}`; right would be: a number from {least} to {most}, \
+             in digits without a sign or a zero before them"
+        ),
         Refusal::Missing { what } => {
             let what = wanted(what);
             eprintln!(rt; "reqld: {what} is missing; right would be: {RIGHT}")
@@ -94,6 +103,10 @@ fn main(rt: HostRuntime) -> ExitCode {
         Command::Help => printed(print!(rt; "{USAGE}")),
         Command::Version => printed(println!(rt; "reqld 0.1.0")),
         Command::Refused(refusal) => complain(&rt, refusal),
+        Command::Listen { .. } => {
+            let _ = eprintln!(rt; "reqld: {NO_LISTEN}");
+            ExitCode::from(2)
+        }
         Command::Stdio { .. } => {
             let (dice, clock) = (OsDice::new(rt), OsClock::new(rt));
             let outcome = run(&rt, alloc, &words, StdLink::new(rt), dice, clock);
