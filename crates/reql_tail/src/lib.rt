@@ -4,6 +4,7 @@
 mod half;
 mod led;
 mod tail;
+mod threads;
 
 pub use led::Led;
 pub use reql_memory::Memory;
