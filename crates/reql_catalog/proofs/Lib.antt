@@ -3,3 +3,4 @@ pub mod Steps
 pub mod Places
 pub mod Agreeing
 pub mod Histories
+pub mod Sends

@@ -13,6 +13,7 @@ mod naming;
 mod rows;
 mod saying;
 mod slot;
+mod threads;
 
 pub use catalog::Catalog;
 pub use catalogue::Catalogue;
