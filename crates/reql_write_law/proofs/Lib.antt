@@ -1,3 +1,4 @@
 pub mod Treated
 pub mod Counted
 pub mod Worked
+pub mod Sends

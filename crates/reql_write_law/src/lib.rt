@@ -4,6 +4,7 @@
 mod command;
 mod laws;
 mod rows;
+mod threads;
 
 pub use command::{Act, Change, Conflict, Returns, Summary, WriteCmd};
 pub use laws::write_law;
