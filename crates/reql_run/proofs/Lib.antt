@@ -1,3 +1,4 @@
+pub mod Closing
 pub mod Fed
 pub mod Served
 pub mod Starting

@@ -1,12 +1,14 @@
 -- What the laws of explained sessions say of one session.
-use Rattle.std.specs.Prelude.{◌≡◌, ◌≤◌, ◌<◌, ◌+◌, ℕ, List, length, map}
+use Rattle.std.specs.Prelude.{◌≡◌, ◌≤◌, ◌<◌, ◌+◌, ◌⊎◌, ℕ, true, List, [], ◌++◌, length, map}
+use Rattle.reql_outside.specs.Tape.{Tape}
+use Rattle.reql_wire.specs.declared.frame.Frame.{Frame}
 use Rattle.reql_table_machine.specs.Fed.{upto, Whole, takings}
 use Rattle.reql_table_machine.specs.Feeding.{fold, bare}
 use Rattle.reql_law.specs.Laws.{docs_at, known_act}
 use Rattle.reql_law.specs.Table.{feeding}
 use Rattle.reql_story.specs.Explained.{DeskShare, DeskSeen, Life, Explained, sent_of}
-use Rattle.reql_story.specs.Laws.{Handled, LeftAs, Opens}
-use Rattle.reql_story.specs.Session.{Event, acts_on, fresh}
+use Rattle.reql_story.specs.Laws.{Handled, LeftAs, IsValid, Opens}
+use Rattle.reql_story.specs.Session.{Event, acts_on, begun, fresh}
 use Rattle.reql_story.specs.Tasks.{Talk}
 use Rattle.reql_story.specs.declared.end.End.TheVariants as ends
 
@@ -19,6 +21,15 @@ module _ {PL : Type 0} (k : Talk PL) {share : DeskShare} {life : Life} (e : Expl
   -- All its turns were used up only where more came, or was idle, than so many turns may take.
   abbrev pub IsLate : Type 0
   IsLate = life.end ≡ ends.Worn → k.limits.turns < ((length life.given + length life.given) + life.idles) + 2
+
+  -- What was given, with more to come only where the input wasn't over, is a valid input: nothing, or a greeting that is accepted
+  -- and then frames within the limit alone. Then, where no call of the link failed, and twice what was given with the idle receives
+  -- and two more is at most the limit of turns, every frame was handled, in order, and the session closed, as its input was over,
+  -- unless memory was wanted.
+  abbrev pub ClosesWhole : Tape → Type 0
+  ClosesWhole tape = (more : List ℕ) (frames : List Frame) → IsValid k (life.given ++ more) frames → (tape.over ≡ true → more ≡ [])
+      → tape.faults_in ≡ 0 → tape.faults_out ≡ 0 → ((length life.given + length life.given) + tape.idles) + 2 ≤ k.limits.turns
+      → ((life.end ≡ ends.Closed) × (begun e.events ≡ frames) × (tape.over ≡ true)) ⊎ (life.end ≡ ends.Memory)
 
   -- Each feed that the session opened: the changes that were sent of it, folded over its value at the opening, give its value
   -- at every change up to which its answers are whole.

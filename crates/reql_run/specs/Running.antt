@@ -14,7 +14,7 @@ use Rattle.reql_told.specs.Told.{talk}
 use Rattle.reql_serve.specs.Serving.{ServesOne}
 use Rattle.reql_words.specs.Words.{Asks, Stdio}
 use Rattle.reql_run.specs.Endings.{status_of}
-use Rattle.reql_run.specs.Holding.{IsComplete, IsLate, AreFed}
+use Rattle.reql_run.specs.Holding.{IsComplete, IsLate, ClosesWhole, AreFed}
 
 -- One session, told of plans in ReQL, at the one desk of a hall that knows these tables and whose engines are unused.
 abbrev pub IsServed : {E NE : Type 0} → (E → State) → (NE → Catalog) → List ℕ → List (List ℕ × List ℕ) → Source ℤ → Source (List ℕ) → Tape → End → ℕ → Closed E Order State NE CatCmd Catalog → Type 0
@@ -23,7 +23,8 @@ IsServed state known key tables clock dice tape end turns hall =
     (replicate usual_limits.slots (unused usual_limits.feeds)) clock dice tape end turns hall
 
 -- The words ask for a session with a key and tables, it is served, and the status is that of its end; nothing of its input
--- is missing, its turns were used up by so much input alone, and its feeds are fed.
+-- is missing, its turns were used up by so much input alone, a valid input over a link without a fault is handled whole and
+-- closes, and its feeds are fed.
 pub record Serves {E NE : Type 0} (state : E → State) (known : NE → Catalog) (asked : Asks) (status : ℕ) (clock : Source ℤ) (dice : Source (List ℕ)) (tape : Tape) (end : End) (turns : ℕ) (hall : Closed E Order State NE CatCmd Catalog) : Type 0 where
   pub key : List ℕ
   pub tables : List (List ℕ × List ℕ)
@@ -32,6 +33,7 @@ pub record Serves {E NE : Type 0} (state : E → State) (known : NE → Catalog)
   pub ends : status ≡ status_of end
   pub complete : IsComplete (talk key usual_limits) served.served.explained.explained
   pub late : IsLate (talk key usual_limits) served.served.explained.explained
+  pub whole : ClosesWhole (talk key usual_limits) served.served.explained.explained tape
   pub fed : AreFed (talk key usual_limits) served.served.explained.explained
 
 -- No session is served: the words ask for none, or memory was wanted.

@@ -6,7 +6,7 @@ ghost use Rattle.reql_core.specs.Live.{state_of};
 ghost use Rattle.reql_open_feed.specs.Open.{held_in};
 ghost use Rattle.reql_law.specs.Laws.{DocsAtStamp, StampCounts};
 ghost use Rattle.reql_law.specs.Terms.{PointsShowTheirTerms, RangesShowTheirTerms, LimitsShowTheirTerms};
-ghost use Rattle.reql_told.specs.Laws.{AllInOrder, AllFramesHandled, AllWornLate, AllFeedsHold, BatchesAgree, InfoIsServers, PlansAreTold};
+ghost use Rattle.reql_told.specs.Laws.{AllInOrder, AllFramesHandled, AllWornLate, AllValidClose, AllFeedsHold, BatchesAgree, InfoIsServers, PlansAreTold};
 ghost use Rattle.reql_told.specs.Refusing.{FirstRefusal, ShapeRefusal};
 ghost use Rattle.reql_run.specs.Running.{IsServed, Serves, Unserved};
 
@@ -52,7 +52,9 @@ fn serve<R: Wait, L: Link + Drop, D: Dice + Drop, T: Clock + Drop>(
 ///
 /// The link is fresh. With other words the status is 2, and nothing is heard or said. What is proved of every session of
 /// these plans, whatever its input, stands beside what this one did: its input is handled in order, every whole frame of
-/// it; every request is answered by its plan, or by the first of its refusals; and every feed that it opened folds to the
+/// it; a valid input, which is nothing or a greeting that is accepted and whole frames within the limit, is handled to its
+/// last frame, and the status is 0, unless a receive or a send failed, it took more turns than there are, or memory was
+/// wanted; every request is answered by its plan, or by the first of its refusals; and every feed that it opened folds to the
 /// value of its query.
 pub fn run<R: Wait, L: Link + Drop, D: Dice + Drop, T: Clock + Drop>(
     rt: &R,
@@ -70,6 +72,7 @@ pub fn run<R: Wait, L: Link + Drop, D: Dice + Drop, T: Clock + Drop>(
     ensures in_order { AllInOrder }
     ensures frames_handled { AllFramesHandled }
     ensures worn_late { AllWornLate }
+    ensures valid_close { AllValidClose }
     ensures shape { ShapeRefusal }
     ensures first { FirstRefusal }
     ensures plans_are_told { PlansAreTold }

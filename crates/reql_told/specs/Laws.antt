@@ -34,6 +34,9 @@ AllFramesHandled = (key : List ℕ) (limits : Limits) → story.FramesHandled (t
 abbrev pub AllWornLate : Type 0
 AllWornLate = (key : List ℕ) (limits : Limits) → story.WornLate (talk key limits)
 
+abbrev pub AllValidClose : Type 0
+AllValidClose = (key : List ℕ) (limits : Limits) → story.ValidCloses (talk key limits)
+
 abbrev pub AllKept : Type 0
 AllKept = (key : List ℕ) (limits : Limits) → IsKept (ExplainedBy (talk key limits))
 

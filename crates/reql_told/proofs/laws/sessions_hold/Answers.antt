@@ -1,3 +1,4 @@
+use Rattle.reql_story.proofs.Closings as closings
 use Rattle.reql_story.proofs.Counts as counts
 use Rattle.reql_story.proofs.Feeding.{session_fed}
 use Rattle.reql_story.proofs.Orders.{handled}
@@ -15,6 +16,9 @@ returns-clause-frames_handled c = λ key limits. rests.frames_handled (talk key 
 
 pub returns-clause-worn_late : goal.returns-clause-worn_late
 returns-clause-worn_late c = λ key limits. counts.worn_late (talk key limits)
+
+pub returns-clause-valid_close : goal.returns-clause-valid_close
+returns-clause-valid_close c = λ key limits. closings.valid_closes (talk key limits)
 
 pub returns-clause-kept : goal.returns-clause-kept
 returns-clause-kept c = λ key limits. upward.kept (talk key limits)
