@@ -1,3 +1,4 @@
 pub mod Worked
 pub mod Minding
 pub mod Following
+pub mod Follows

@@ -12,3 +12,4 @@ pub mod Feeding
 pub mod Course
 pub mod Worked
 pub mod Minds
+pub mod Follows

@@ -1,0 +1,8 @@
+use Rattle.reql_plan_law.proofs.Follows.{points_are_read, ranges_are_read}
+use Rattle.reql_plan_law.proofs.laws.feeds_are_read.Goals as goal
+
+pub returns-clause-ranges : goal.returns-clause-ranges
+returns-clause-ranges c = ranges_are_read
+
+pub returns-clause-points : goal.returns-clause-points
+returns-clause-points c = points_are_read
