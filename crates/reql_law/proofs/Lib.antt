@@ -12,3 +12,4 @@ pub mod Orders
 pub mod LimitTerms
 pub mod SameTables
 pub mod RangeTerms
+pub mod Sends

@@ -8,6 +8,7 @@ mod laws;
 mod limits;
 mod reply;
 mod rows;
+mod threads;
 
 pub use command::{Cmd, Entry, FeedSpec, Order};
 pub use engine::{Keeping, Kept, MachineState, TableEngine};
