@@ -9,4 +9,4 @@ mod Filing
 mod Listed
 mod Owned
 pub mod Given
-mod Sends
+pub mod Sends
