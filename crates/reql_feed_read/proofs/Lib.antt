@@ -9,3 +9,4 @@ pub mod Choices
 pub mod Reading
 pub mod Limits
 pub mod Orders
+pub mod Sends

@@ -15,6 +15,7 @@ mod places;
 mod point;
 mod range;
 mod shape;
+mod threads;
 
 pub use copies::{index_copy, request_copy};
 pub use follows::{Follows, read};
