@@ -3,3 +3,4 @@ pub mod Changes
 pub mod Documents
 pub mod Pairing
 pub mod Feeds
+pub mod Sends

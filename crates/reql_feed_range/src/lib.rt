@@ -7,5 +7,6 @@ mod feed;
 mod opening;
 mod printed;
 mod telling;
+mod threads;
 
 pub use feed::RangeFeed;
