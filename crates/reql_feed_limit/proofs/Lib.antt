@@ -20,3 +20,4 @@ pub mod Places
 pub mod Answered
 pub mod Preparing
 pub mod Kept
+pub mod Sends

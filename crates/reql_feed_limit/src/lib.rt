@@ -14,6 +14,7 @@ mod pairs;
 mod printing;
 mod reading;
 mod search;
+mod threads;
 
 pub use element::{Element, LimitStep, Placed};
 pub use feed::LimitFeed;
