@@ -18,3 +18,4 @@ mod Served
 mod Sizes
 mod Whole
 mod Tells
+pub mod Sends

@@ -14,6 +14,7 @@ mod prepared;
 mod shadow;
 mod taking;
 mod telling;
+mod threads;
 
 pub use draft::Draft;
 pub use feeds::Feeds;
