@@ -3,3 +3,4 @@ pub mod Elements
 pub mod Changes
 pub mod Told
 pub mod Beginnings
+pub mod Sends

@@ -9,6 +9,7 @@ mod listed;
 mod moving;
 mod opening;
 mod preparing;
+mod threads;
 
 pub use feed::OpenFeed;
 pub use first::FirstFeed;
