@@ -11,3 +11,4 @@ mod Fulls
 mod Runs
 mod Tails
 mod Answering
+pub mod Sends

@@ -12,6 +12,7 @@ mod subscribing;
 mod table_core;
 mod taking;
 mod telling;
+mod threads;
 mod writing;
 
 pub use reql_opening::{Opened, Opening};
