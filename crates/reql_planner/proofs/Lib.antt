@@ -3,3 +3,4 @@ mod Groups
 mod Items
 mod Onward
 mod Stating
+pub mod Sends

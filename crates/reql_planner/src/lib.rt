@@ -9,6 +9,7 @@ mod grouping;
 mod listing;
 mod moving;
 mod planner;
+mod threads;
 
 pub use course::QueryCourse;
 pub use planner::QueryPlanner;
