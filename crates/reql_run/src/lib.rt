@@ -4,6 +4,7 @@
 mod opening;
 mod outcome;
 mod serving;
+mod threads;
 
 pub use outcome::{Core, Outcome};
 pub use serving::run;

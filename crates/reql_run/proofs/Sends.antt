@@ -1,0 +1,24 @@
+-- The engine of each table may go to another thread, and threads may share a planner over it.
+use denote.RattleType.{RattleType}
+use denote.Param.Send.{IsSend, IsSync}
+use Rattle.std.specs.contracts.option.Option as option
+use Rattle.reql_feed_limit.specs.contracts.element.LimitStep as step
+use Rattle.reql_open_feed.proofs.Sends.{open_feed_send}
+use Rattle.reql_open_feed.specs.contracts.feed.OpenFeed as feed
+use Rattle.reql_open_feed.specs.contracts.feed.OpenFeedFollowing.TheImpl as following
+use Rattle.reql_core.proofs.Sends.{core_send}
+use Rattle.reql_core.specs.contracts.table_core.TableCore as core
+use Rattle.reql_planner.proofs.Sends.{planner_sync}
+use Rattle.reql_planner.specs.contracts.planner.QueryPlanner as planner
+
+abbrev steps : RattleType
+steps = option.the_row step.the_row
+
+abbrev pub engine : RattleType
+engine = core.the_row feed.the_row steps following.ghosts
+
+pub engine_send : IsSend engine
+engine_send = core_send feed.the_row steps following.ghosts open_feed_send
+
+pub engine_planner_sync : IsSync (planner.the_row engine)
+engine_planner_sync = planner_sync engine
