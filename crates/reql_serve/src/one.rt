@@ -9,7 +9,7 @@ use reql_hall::{FinalHall, Hall};
 use reql_law::TableEngine;
 use reql_memory::Memory;
 use reql_outside::{Clock, Dice, Link};
-use reql_session::Session;
+use reql_session::{Bench, Session};
 use reql_story::Planning;
 use reql_talk::Planner;
 use reql_turns::{Served, serve_session};
@@ -59,11 +59,12 @@ where
     let Some(desk) = desks.pop() else {
         return Err(Memory);
     };
-    let Ok(mut session) = Session::new(rt, alloc, &hall, desk, slots, planner, clock, dice) else {
+    let bench = Bench { desk, clock, dice };
+    let Ok(mut session) = Session::new(rt, alloc, &hall, bench, slots, planner) else {
         return Err(Memory);
     };
     let served = serve_session(alloc, link, &mut session);
-    desks.push_reserved(session.into_desk());
+    desks.push_reserved(session.into_bench().desk);
     let hall = hall.close(rt, desks, room);
     Ok(Ended {
         session: served,

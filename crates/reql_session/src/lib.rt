@@ -23,4 +23,4 @@ mod visiting;
 mod visits;
 mod voice;
 
-pub use session::Session;
+pub use session::{Bench, Session};

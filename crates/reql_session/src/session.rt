@@ -23,6 +23,14 @@ use reql_wire::Frame;
 use std::alloc::Global;
 use std::sync::Wait;
 
+/// What a session works with, and gives back at its end: a desk, a clock and dice.
+#[derive(Drop)]
+pub struct Bench<C: TableEngine, D, T> {
+    pub desk: Desk<C, Catalogue>,
+    pub clock: T,
+    pub dice: D,
+}
+
 /// What handles the frames of a session: it plans what they ask for, follows the plans at a desk of a hall, with a clock and
 /// dice, and keeps what is open.
 #[derive(Drop)]
@@ -54,50 +62,56 @@ impl<
     D: Dice + Drop,
     T: Clock + Drop,
 > Session<'a, R, C, P, D, T> {
-    /// A session that has nothing open, at a desk of this hall, which has at least so many slots. An `Err` hands the desk back.
+    /// A session that has nothing open, at a desk of this hall, which has so many slots. An `Err` hands all of the bench back.
     pub fn new(
         rt: &'a R,
         alloc: Global,
         hall: &'a Hall<C, Catalogue>,
-        desk: Desk<C, Catalogue>,
+        bench: Bench<C, D, T>,
         slots: u32,
         planner: &'a P,
-        clock: T,
-        dice: D,
-    ) -> Result<Self, Refused<Desk<C, Catalogue>>>
-        requires of_this_hall { Sits hall.now desk }
-        requires slots { slots ≤ length hall.now.slots }
+    ) -> Result<Self, Refused<Bench<C, D, T>>>
+        requires of_this_hall { Sits hall.now bench.desk }
+        requires slots { slots ≡ length hall.now.slots }
         ensures hall { IfOk result (λ s. s.hall ≡ hall.entry) }
         ensures planner { IfOk result (λ s. s.planner ≡ planner.entry) }
         ensures slots { IfOk result (λ s. s.slots ≡ slots) }
         ensures work { IfOk result (λ s. working C.some_state s.desk (books_of s.shelf) (T.told s.clock) (D.told s.dice)
-            ≡ working C.some_state desk no_books (T.told clock) (D.told dice)) }
-        ensures desk { IfOk result (λ s. s.desk ≡ desk) }
-        ensures back { IfErr result (λ refused. refused.back ≡ desk) }
+            ≡ working C.some_state bench.desk no_books (T.told bench.clock) (D.told bench.dice)) }
+        ensures desk { IfOk result (λ s. s.desk ≡ bench.desk) }
+        ensures back { IfErr result (λ refused. refused.back ≡ bench) }
     {
-        match Voice::new(alloc) {
-            Ok(voice) => Ok(Session {
-                rt,
-                alloc,
-                hall,
-                desk,
-                slots,
-                planner,
-                clock,
-                dice,
-                voice,
-                shelf: Shelf::new(alloc),
-            }),
-            Err(_) => Err(Refused { back: desk }),
-        }
+        let Ok(voice) = Voice::new(alloc) else {
+            return Err(Refused { back: bench });
+        };
+        let Bench { desk, clock, dice } = bench;
+        Ok(Session {
+            rt,
+            alloc,
+            hall,
+            desk,
+            slots,
+            planner,
+            clock,
+            dice,
+            voice,
+            shelf: Shelf::new(alloc),
+        })
     }
 
-    /// Its desk, which it is done with.
-    pub fn into_desk(self) -> Desk<C, Catalogue>
-        ensures { result ≡ self.entry.desk }
+    /// Its bench, with which it is done.
+    pub fn into_bench(self) -> Bench<C, D, T>
+        ensures desk { result.desk ≡ self.entry.desk }
+        ensures clock { result.clock ≡ self.entry.clock }
+        ensures dice { result.dice ≡ self.entry.dice }
     {
-        let Session { desk, .. } = self;
-        desk
+        let Session {
+            desk,
+            clock,
+            dice,
+            ..
+        } = self;
+        Bench { desk, clock, dice }
     }
 }
 

@@ -16,6 +16,12 @@ use Rattle.reql_session.specs.Settling.{working}
 use Rattle.reql_serve.proofs.Desks.{one_left, alone, all_of_one, first_of, same_count, keeps_nothing}
 use Rattle.reql_serve.proofs.one.serve_one.Goals as goal
 
+-- there are as many slots as engines
+pub new-requires-2-clause-slots : goal.new-requires-2-clause-slots
+new-requires-2-clause-slots g c =
+    let hall = c.in_ok-hall.hall in
+    omega (arith, same_count (λ (o : Object _). o.start) g.C.Engine.state hall.slots c.args.engines.items c.in_ok-hall.ensures.slots, c.len.ensures, c.args.engines.ok, c.in-Ok.ensures)
+
 -- the one desk of the hall
 pub new-requires-2-clause-of_this_hall : goal.new-requires-2-clause-of_this_hall
 new-requires-2-clause-of_this_hall g c =
@@ -46,7 +52,7 @@ close-hall-requires-clause-of_this_hall g c =
     let here : s.hall.now ≡ hall = ap (λ z. z.now) c.in-Ok-new.ensures.hall in
     let t = c.serve_session-served.new.handler in
     let sits : Sits hall t.desk = subst (λ z. Sits z t.desk) (c.serve_session-served.ensures.hall ∙ here) c.serve_session-served.ensures.ready.0 in
-    let back : c.push_reserved.new.self.items ≡ t.desk ∷ [] = c.push_reserved.ensures.items ∙ ap (λ z. z ++ c.into_desk.result ∷ []) left.0 ∙ ap (λ z. z ∷ []) c.into_desk.ensures in
+    let back : c.push_reserved.new.self.items ≡ t.desk ∷ [] = c.push_reserved.ensures.items ∙ ap (λ z. z ++ c.into_bench.result.desk ∷ []) left.0 ∙ ap (λ z. z ∷ []) c.into_bench.ensures.desk in
     subst (All (Sits hall)) (sym back) (all_of_one (Sits hall) t.desk sits)
 
 pub returns : goal.returns
@@ -58,7 +64,7 @@ returns g c =
     let here : s.hall.now ≡ hall = ap (λ z. z.now) c.in-Ok-new.ensures.hall in
     let t = c.serve_session-served.new.handler in
     let sits : Sits hall t.desk = subst (λ z. Sits z t.desk) (c.serve_session-served.ensures.hall ∙ here) c.serve_session-served.ensures.ready.0 in
-    let back : c.push_reserved.new.self.items ≡ t.desk ∷ [] = c.push_reserved.ensures.items ∙ ap (λ z. z ++ c.into_desk.result ∷ []) left.0 ∙ ap (λ z. z ∷ []) c.into_desk.ensures in
+    let back : c.push_reserved.new.self.items ≡ t.desk ∷ [] = c.push_reserved.ensures.items ∙ ap (λ z. z ++ c.into_bench.result.desk ∷ []) left.0 ∙ ap (λ z. z ∷ []) c.into_bench.ensures.desk in
     let talk : g.P.Planning.talk s.planner.now ≡ g.P.Planning.talk c.args.planner.now = ap (λ z. g.P.Planning.talk z.now) c.in-Ok-new.ensures.planner in
     let work = c.in-Ok-new.ensures.work ∙ ap (λ z. working g.C.Engine.some_state z no_books (g.T.Clock.told c.args.clock) (g.D.Dice.told c.args.dice)) (sym left.1) in
     let all = histories_of c.close-hall.result in
