@@ -18,7 +18,7 @@ use Rattle.reql_feed_law.specs.declared.kind.FeedKind.TheVariants as kinds
 use Rattle.reql_law.specs.Followed.{shape_index, first_slot, is_same}
 use Rattle.reql_law.specs.declared.command.FeedSpec.{FeedSpec}
 use Rattle.reql_plan_law.specs.declared.parts.Opening.{Opening}
-use Rattle.reql_plan_law.specs.Feeding.{Told, opening, tested, row_test}
+use Rattle.reql_plan_law.specs.Feeding.{Told, opening, datum_at, row_test}
 use Rattle.reql_plan_law.specs.Follows.{IsRead, RangesAreRead, PointsAreRead}
 use Rattle.reql_plan_law.specs.Held.{Held, key_of}
 use Rattle.reql_plan_law.specs.Settled.{argument, keeps_argument}
@@ -63,7 +63,7 @@ key_read e t n d (Ok key) f s h =
     subst (λ z. IsRead (opening e t z None kinds.Point).spec) same (λ indexes. (by_key key, ap (λ (z : Answer Plain). z >>= λ x. Ok (by_key x)) s))
 
 -- a key that is no literal is refused
-form_read : (e : Held) (t : Told) (n : ℕ) (g f : Form) → (tested (key_if is_key) g >>= λ _. Ok (operation op.Get (form (slot n) (form g no_forms)) no_named)) ≡ Ok f → IsRead (opening e t f None kinds.Point).spec
+form_read : (e : Held) (t : Told) (n : ℕ) (g f : Form) → ((datum_at g >>= key_if is_key >>= λ _. passed) >>= λ _. Ok (operation op.Get (form (slot n) (form g no_forms)) no_named)) ≡ Ok f → IsRead (opening e t f None kinds.Point).spec
 form_read e t n (literal d) f h = key_read e t n d (key_if is_key d) f refl h
 form_read e t n (several fs) f h = absurd (fails _ f h)
 form_read e t n (keyed ms) f h = absurd (fails _ f h)
