@@ -1,0 +1,218 @@
+-- A worker's turns, one after another.
+use Rattle.std.proofs.Common.{◌≡◌, ◌≢◌, ℕ, ℤ, ◌+◌, ◌<◌, List, [], ◌∷◌, ◌++◌, length, All, Option, Some, refl, sym, ap, subst, ◌∙◌, arith}
+use Rattle.std.proofs.lemmas.List.{length_push}
+use Rattle.std.proofs.lemmas.List.Elements.{All-push}
+use Rattle.reql_outside.specs.Source.{Source}
+use Rattle.reql_outside.specs.Tape.{Tape, counted}
+use Rattle.reql_outside.proofs.Moving.{counted_twice}
+use Rattle.reql_net.specs.Doors.{DoorTold}
+use Rattle.reql_hall.specs.Rooms.{Rooms, Sits}
+use Rattle.reql_hall.specs.Shares.{Grows, Serves, share, seen_by}
+use Rattle.reql_hall.proofs.Joining.{serves_none, share_lies}
+use Rattle.reql_catalog.specs.declared.catalog.Catalog.{Catalog}
+use Rattle.reql_law.specs.Machine.{State}
+use Rattle.reql_story.specs.Books.{Books, no_books}
+use Rattle.reql_story.specs.Tasks.{Talk}
+use Rattle.reql_story.specs.Explained.{Life, ExplainedBy}
+use Rattle.reql_story.specs.Worlds.{life_of}
+use Rattle.reql_story.proofs.Upward.{one_more}
+use Rattle.reql_talk.specs.World.{AtWork, Gave, IsServed}
+use Rattle.reql_desk_moves.specs.Acting.{AtDesk}
+use Rattle.reql_session.specs.Settling.{working}
+use Rattle.reql_session.specs.declared.session.Bench.{Bench}
+use Rattle.reql_serve.specs.Working.{Outside, outside, gave_more, left_by, StopsWith, WorkedThere, IsLifeOf, Follow, ServesNext, Linked, Turn, Turns, Worked}
+use Rattle.reql_serve.specs.declared.worker.Member.{Member}
+use Rattle.reql_serve.specs.declared.worker.WorkState.{WorkState}
+use Rattle.reql_serve.specs.declared.worker.WorkState.TheVariants as state
+
+gave_twice : (n : ℕ) (door : DoorTold) → gave_more 1 (gave_more n door) ≡ gave_more (n + 1) door
+gave_twice n door = ap (λ g. record door { gave = g }) (counted_twice door.gave n 1)
+
+module _ {R : Type 0} (tape : R → Tape) where
+  follow_more : (from mid to : Outside) (ms : List (Member R)) (lives : List Life) (m : Member R) (life : Life)
+      → Follow tape from ms lives mid → IsLifeOf tape mid to m life → Follow tape from (ms ++ m ∷ []) (lives ++ life ∷ []) to
+  follow_more from mid to [] [] m life f is = (
+    to,
+    record {
+      given = is.given;
+      sent = is.sent;
+      idles = is.idles;
+      over = is.over;
+      faults_in = is.faults_in;
+      faults_out = is.faults_out;
+      end = is.end;
+      turns = is.turns;
+      clock = subst (λ c. Gave c to.clock life.moments) f.0 is.clock;
+      dice = subst (λ d. Gave d to.dice life.rolls) f.1 is.dice;
+    },
+    (refl, refl),
+  )
+  follow_more from mid to [] (l ∷ ls) m life f is = absurd f
+  follow_more from mid to (n ∷ ms) [] m life f is = absurd f
+  follow_more from mid to (n ∷ ms) (l ∷ ls) m life f is = (f.0, f.1, follow_more f.0 mid to ms ls m life f.2 is)
+
+  pub follow_same : (from mid to : Outside) (ms : List (Member R)) (lives : List Life)
+      → to.clock ≡ mid.clock → to.dice ≡ mid.dice → Follow tape from ms lives mid → Follow tape from ms lives to
+  follow_same from mid to [] [] c d f = (c ∙ f.0, d ∙ f.1)
+  follow_same from mid to [] (l ∷ ls) c d f = absurd f
+  follow_same from mid to (n ∷ ms) [] c d f = absurd f
+  follow_same from mid to (n ∷ ms) (l ∷ ls) c d f = (f.0, f.1, follow_same f.0 mid to ms ls c d f.2)
+
+module _ {R : Type 0} where
+  -- nothing was used but the door
+  abbrev Idle : Rooms State Catalog → AtDesk → AtDesk → Outside → Outside → List (Member R) → List (Member R) → WorkState → Type 0
+  Idle hall old new from to before after end = Sits hall new × (after ≡ before) × (new ≡ old) × (to ≡ record from { door = left_by end from.door })
+
+  idle_turn : {H : Type 0} (desk : H → AtDesk) (clock : H → Source ℤ) (dice : H → Source (List ℕ)) (hall : Rooms State Catalog) (h g : H)
+      (old new : AtDesk) (clock0 clock1 : Source ℤ) (dice0 dice1 : Source (List ℕ)) (door0 door1 : DoorTold) (before after : List (Member R)) (end : WorkState)
+      → (after ≡ before) × (g ≡ h) × (door1 ≡ left_by end door0) → desk h ≡ old → clock h ≡ clock0 → dice h ≡ dice0
+      → new ≡ desk g → clock1 ≡ clock g → dice1 ≡ dice g → Sits hall (desk g)
+      → Idle hall old new (outside clock0 dice0 door0) (outside clock1 dice1 door1) before after end
+  idle_turn desk clock dice hall h g old new clock0 clock1 dice0 dice1 door0 door1 before after end l at ce de n c d s = (
+    subst (Sits hall) (sym n) s,
+    l.0,
+    n ∙ ap desk l.1 ∙ at,
+    let ct : clock1 ≡ clock0 = c ∙ ap clock l.1 ∙ ce in
+        let dt : dice1 ≡ dice0 = d ∙ ap dice l.1 ∙ de in
+        λ i. outside (ct i) (dt i) (l.2 i),
+  )
+
+module _ {PL R : Type 0} (k : Talk PL) (some : State) (tape : R → Tape) where
+  -- what came of a member
+  abbrev its_life : (old new : AtDesk) (from to : Outside) (m : Member R) → ServesNext k some tape old new from to m → Life
+  its_life old new from to m s =
+      life_of s.served.explained.given s.served.explained.sent s.served.explained.idle (tape m.served.tape).over s.served.moments s.served.rolls m.served.turns m.served.end
+
+  grows_next : (old new : AtDesk) (from to : Outside) (m : Member R) → ServesNext k some tape old new from to m → Grows some old new
+  grows_next old new from to m s = record { names = s.served.explained.names; slots = s.served.explained.slots }
+
+  explained_next : (old new : AtDesk) (from to : Outside) (m : Member R) (s : ServesNext k some tape old new from to m)
+      → ExplainedBy k (seen_by some new) (share some old new) (its_life old new from to m s)
+  explained_next old new from to m s = record {
+    lies = share_lies some old new (grows_next old new from to m s);
+    explained = s.served.explained.explained;
+  }
+
+  is_life : (old new : AtDesk) (from to : Outside) (m : Member R) (s : ServesNext k some tape old new from to m)
+      → IsLifeOf tape from to m (its_life old new from to m s)
+  is_life old new from to m s = record {
+    given = s.served.explained.given_told;
+    sent = s.served.explained.sent_told;
+    idles = s.served.explained.idles;
+    over = refl;
+    faults_in = s.served.explained.faults_in;
+    faults_out = s.served.explained.faults_out;
+    end = refl;
+    turns = refl;
+    clock = s.served.clock;
+    dice = s.served.dice;
+  }
+
+  -- one turn, by a session at this desk, which was made for it and is over
+  pub turned : {H : Type 0} (desk : H → AtDesk) (books : H → Books) (clock : H → Source ℤ) (dice : H → Source (List ℕ)) (hall : Rooms State Catalog) (j : Talk PL) (number : ℕ) (h g : H)
+      (old new : AtDesk) (clock0 clock1 : Source ℤ) (dice0 dice1 : Source (List ℕ)) (door0 door1 : DoorTold) (before after : List (Member R)) (end : WorkState)
+      → j ≡ k → desk h ≡ old → working some (desk h) (books h) (clock h) (dice h) ≡ working some old no_books clock0 dice0
+      → Linked j tape end number (working some (desk h) (books h) (clock h) (dice h)) (working some (desk g) (books g) (clock g) (dice g)) door0 door1 before after h g
+      → new ≡ desk g → clock1 ≡ clock g → dice1 ≡ dice g → number ≡ old.names.number → Sits hall (desk g)
+      → Turns k some tape hall old new (outside clock0 dice0 door0) (outside clock1 dice1 door1) before after end
+  turned desk books clock dice hall j number h g old new clock0 clock1 dice0 dice1 door0 door1 before after state.Ready talk at work l n c d num s = record {
+    sits = subst (Sits hall) (sym n) s;
+    turn = (
+      l.0,
+      l.1,
+      record {
+        desk = l.2 ∙ num;
+        books = books g;
+        served = subst (λ (z : Talk PL × AtWork × AtWork). IsServed z.0 z.1 z.2 (tape l.0.served.tape) l.0.served.end l.0.served.turns)
+            (λ i. (talk i, work i, working some (sym n i) (books g) (sym c i) (sym d i))) l.3;
+        door = l.4;
+      },
+    );
+  }
+  turned desk books clock dice hall j number h g old new clock0 clock1 dice0 dice1 door0 door1 before after state.Done talk at work l n c d num s = absurd l
+  turned desk books clock dice hall j number h g old new clock0 clock1 dice0 dice1 door0 door1 before after state.Memory talk at work l n c d num s = absurd l
+  turned desk books clock dice hall j number h g old new clock0 clock1 dice0 dice1 door0 door1 before after state.Over talk at work l n c d num s =
+      let i = idle_turn desk clock dice hall h g old new clock0 clock1 dice0 dice1 door0 door1 before after state.Over (l.0, l.1, l.2) at (ap (λ (z : AtWork). z.clock) work) (ap (λ (z : AtWork). z.dice) work) n c d s in
+      record { sits = i.0; turn = (i.1, i.2, i.3) }
+  turned desk books clock dice hall j number h g old new clock0 clock1 dice0 dice1 door0 door1 before after state.Failed talk at work l n c d num s =
+      let i = idle_turn desk clock dice hall h g old new clock0 clock1 dice0 dice1 door0 door1 before after state.Failed (l.0, l.1, l.2) at (ap (λ (z : AtWork). z.clock) work) (ap (λ (z : AtWork). z.dice) work) n c d s in
+      record { sits = i.0; turn = (i.1, i.2, i.3) }
+
+  pub worked_none : (hall : Rooms State Catalog) (desk : AtDesk) (from : Outside) (most left : ℕ) (members : List (Member R)) → left ≡ most → members ≡ [] → Sits hall desk
+      → Worked k some tape hall desk desk from from most left members state.Ready
+  worked_none hall desk from most left members e none s = record {
+    lives = [];
+    sits = s;
+    serves = serves_none some (ExplainedBy k) desk;
+    follow = subst (λ ms. Follow tape from ms [] from) (sym none) (refl, refl);
+    numbers = subst (λ ms. All (λ (m : Member R). m.desk ≡ desk.names.number) ms) (sym none) (λ n d lt. absurd (omega (arith, lt)));
+    door = ap (λ ms. gave_more (length ms) from.door) (sym none);
+    counts = omega (arith, e, ap length none);
+    stops = tt;
+  }
+
+  pub worked_more : (hall : Rooms State Catalog) (old mid new : AtDesk) (from via to : Outside) (most left next : ℕ) (before after : List (Member R))
+      → Worked k some tape hall old mid from via most left before state.Ready → Turns k some tape hall mid new via to before after state.Ready → left ≡ next + 1
+      → Worked k some tape hall old new from to most next after state.Ready
+  worked_more hall old mid new from via to most left next before after w t e =
+      let m = t.turn.0 in
+      let is : after ≡ before ++ m ∷ [] = t.turn.1 in
+      let s = t.turn.2 in
+      let many : length after ≡ length before + 1 = omega (arith, ap length is, length_push before m) in
+      record {
+        lives = w.lives ++ its_life mid new via to m s ∷ [];
+        sits = t.sits;
+        serves = one_more k some old mid new w.lives (its_life mid new via to m s) w.serves (grows_next mid new via to m s) (explained_next mid new via to m s);
+        follow = subst (λ ms. Follow tape from ms (w.lives ++ its_life mid new via to m s ∷ []) to) (sym is)
+            (follow_more tape from via to before w.lives m (its_life mid new via to m s) w.follow (is_life mid new via to m s));
+        numbers = subst (λ ms. All (λ (n : Member R). n.desk ≡ old.names.number) ms) (sym is)
+            (All-push (λ (n : Member R). n.desk ≡ old.names.number) before m w.numbers (s.desk ∙ w.serves.grows.names.number));
+        door = s.door ∙ ap (gave_more 1) w.door ∙ gave_twice (length before) from.door ∙ ap (λ n. gave_more n from.door) (sym many);
+        counts = omega (arith, w.counts, e, many);
+        stops = tt;
+      }
+
+  same_end : (hall : Rooms State Catalog) (old mid new : AtDesk) (from via to : Outside) (most left : ℕ) (before after : List (Member R)) (end : WorkState)
+      → Worked k some tape hall old mid from via most left before state.Ready → Sits hall new → after ≡ before → new ≡ mid → to ≡ record via { door = left_by end via.door }
+      → StopsWith end left → Worked k some tape hall old new from to most left after end
+  same_end hall old mid new from via to most left before after end w s a n o h = record {
+    lives = w.lives;
+    sits = s;
+    serves = subst (λ x. Serves some (ExplainedBy k) old x w.lives) (sym n) w.serves;
+    follow = subst (λ ms. Follow tape from ms w.lives to) (sym a) (follow_same tape from via to before w.lives (ap (λ (z : Outside). z.clock) o) (ap (λ (z : Outside). z.dice) o) w.follow);
+    numbers = subst (λ ms. All (λ (m : Member R). m.desk ≡ old.names.number) ms) (sym a) w.numbers;
+    door = ap (λ (z : Outside). z.door) o ∙ ap (left_by end) w.door ∙ ap (λ ms. left_by end (gave_more (length ms) from.door)) (sym a);
+    counts = omega (arith, w.counts, ap length a);
+    stops = h;
+  }
+
+  -- a turn that was no member's is the last
+  pub worked_last : (hall : Rooms State Catalog) (old mid new : AtDesk) (from via to : Outside) (most left : ℕ) (before after : List (Member R)) (end : WorkState)
+      → Worked k some tape hall old mid from via most left before state.Ready → Turns k some tape hall mid new via to before after end → end ≢ state.Ready → 0 < left
+      → Worked k some tape hall old new from to most left after end
+  worked_last hall old mid new from via to most left before after state.Ready w t ne lt = absurd (ne refl)
+  worked_last hall old mid new from via to most left before after state.Done w t ne lt = absurd t.turn
+  worked_last hall old mid new from via to most left before after state.Over w t ne lt = same_end hall old mid new from via to most left before after state.Over w t.sits t.turn.0 t.turn.1 t.turn.2 lt
+  worked_last hall old mid new from via to most left before after state.Failed w t ne lt = same_end hall old mid new from via to most left before after state.Failed w t.sits t.turn.0 t.turn.1 t.turn.2 lt
+  worked_last hall old mid new from via to most left before after state.Memory w t ne lt = same_end hall old mid new from via to most left before after state.Memory w t.sits t.turn.0 t.turn.1 t.turn.2 lt
+
+  -- all of a share was served
+  pub worked_all : (hall : Rooms State Catalog) (old new : AtDesk) (from to : Outside) (most left : ℕ) (members : List (Member R))
+      → Worked k some tape hall old new from to most left members state.Ready → left ≡ 0 → Worked k some tape hall old new from to most 0 members state.Done
+  worked_all hall old new from to most left members w e = record {
+    lives = w.lives;
+    sits = w.sits;
+    serves = w.serves;
+    follow = w.follow;
+    numbers = w.numbers;
+    door = w.door;
+    counts = omega (arith, w.counts, e);
+    stops = refl;
+  }
+
+module _ {PL R C D T V : Type 0} (k : Talk PL) (some : State) (tape : R → Tape) (told : T → Source ℤ) (rolled : D → Source (List ℕ)) where
+  pub there_both : (hall : Rooms State Catalog) (old : Option (Bench C D T V)) (a b : Bench C D T V) (was is : DoorTold) (most left : ℕ) (members : List (Member R)) (end : WorkState) → old ≡ Some a
+      → Worked k some tape hall a.desk b.desk (outside (told a.clock) (rolled a.dice) was) (outside (told b.clock) (rolled b.dice) is) most left members end
+      → WorkedThere k some tape told rolled hall old (Some b) was is most left members end
+  unfolding WorkedThere
+  there_both hall old a b was is most left members end e h = subst (λ z. WorkedThere k some tape told rolled hall z (Some b) was is most left members end) (sym e) h

@@ -1,0 +1,123 @@
+-- What a worker did.
+use Rattle.std.specs.Prelude.{◌≡◌, ◌<◌, ◌+◌, ℕ, ℤ, Bool, true, false, List, [], ◌∷◌, ◌++◌, length, All, Option, Some, None}
+use Rattle.reql_outside.specs.Source.{Source}
+use Rattle.reql_outside.specs.Tape.{Tape, counted}
+use Rattle.reql_net.specs.Doors.{DoorTold}
+use Rattle.reql_hall.specs.Rooms.{Rooms, Sits}
+use Rattle.reql_hall.specs.Shares.{Serves}
+use Rattle.reql_catalog.specs.declared.catalog.Catalog.{Catalog}
+use Rattle.reql_law.specs.Machine.{State}
+use Rattle.reql_story.specs.Books.{Books, no_books}
+use Rattle.reql_story.specs.Tasks.{Talk}
+use Rattle.reql_story.specs.Explained.{Life, ExplainedBy}
+use Rattle.reql_story.specs.Worlds.{IsTold, faults_in_at, faults_out_at}
+use Rattle.reql_talk.specs.World.{AtWork, Gave, IsServed}
+use Rattle.reql_desk_moves.specs.Acting.{AtDesk}
+use Rattle.reql_session.specs.Settling.{working}
+use Rattle.reql_session.specs.declared.session.Bench.{Bench}
+use Rattle.reql_serve.specs.declared.worker.Member.{Member}
+use Rattle.reql_serve.specs.declared.worker.WorkState.{WorkState}
+use Rattle.reql_serve.specs.declared.worker.WorkState.TheVariants as state
+
+-- what a worker has from outside, as it tells of itself: a clock, dice, and a door
+pub record Outside : Type 0 where
+  pub clock : Source ℤ
+  pub dice : Source (List ℕ)
+  pub door : DoorTold
+
+abbrev pub outside : Source ℤ → Source (List ℕ) → DoorTold → Outside
+outside clock dice door = record { clock = clock; dice = dice; door = door }
+
+-- a door that gave so many more links
+abbrev pub gave_more : ℕ → DoorTold → DoorTold
+gave_more n door = record door { gave = counted door.gave n }
+
+-- a door as a worker left it, which ended so: it had answered that no more come, or that it failed, or was not asked
+abbrev pub left_by : WorkState → DoorTold → DoorTold
+left_by state.Over door = record door { over = true }
+left_by state.Failed door = record door { over = true; broken = true; faults = counted door.faults 1 }
+left_by end door = door
+
+-- how many sessions a worker may still serve, which ended so: none where it has served all of its share, and else some
+abbrev pub StopsWith : WorkState → ℕ → Type 0
+StopsWith state.Ready left = Unit {0}
+StopsWith state.Done left = left ≡ 0
+StopsWith end left = 0 < left
+
+module _ {R : Type 0} (tape : R → Tape) where
+  -- What is told of a member by the record of its link, its end and its turns, and by the clock and the dice before and after
+  -- it: what these answered it, and that they failed only where they aren't sound.
+  pub record IsLifeOf (old new : Outside) (m : Member R) (life : Life) : Type 0 where
+    pub given : IsTold (tape m.served.tape).given life.given
+    pub sent : IsTold (tape m.served.tape).sent life.sent
+    pub idles : (tape m.served.tape).idles ≡ counted 0 life.idles
+    pub over : life.over ≡ (tape m.served.tape).over
+    pub faults_in : (tape m.served.tape).faults_in ≡ faults_in_at life.end
+    pub faults_out : (tape m.served.tape).faults_out ≡ faults_out_at life.end
+    pub end : life.end ≡ m.served.end
+    pub turns : life.turns ≡ m.served.turns
+    pub clock : Gave old.clock new.clock life.moments
+    pub dice : Gave old.dice new.dice life.rolls
+
+  -- these are the lives of the members, one after another, with one clock and one set of dice
+  abbrev pub Follow : Outside → List (Member R) → List Life → Outside → Type 0
+  Follow old [] [] new = (new.clock ≡ old.clock) × (new.dice ≡ old.dice)
+  Follow old [] (life ∷ lives) new = ⊥
+  Follow old (m ∷ ms) [] new = ⊥
+  Follow old (m ∷ ms) (life ∷ lives) new = (mid : Outside) × IsLifeOf old mid m life × Follow mid ms lives new
+
+module _ {PL R : Type 0} (k : Talk PL) (tape : R → Tape) where
+  -- One turn over its door, by what handles frames, from h to g: one more member, at the desk of this number, or an end, at
+  -- which all is as it was.
+  abbrev pub Linked : {H : Type 0} → WorkState → ℕ → AtWork → AtWork → DoorTold → DoorTold → List (Member R) → List (Member R) → H → H → Type 0
+  Linked state.Ready number a b door to before after h g =
+      (m : Member R) × (after ≡ before ++ m ∷ []) × (m.desk ≡ number) × IsServed k a b (tape m.served.tape) m.served.end m.served.turns × (to ≡ gave_more 1 door)
+  Linked state.Done number a b door to before after h g = ⊥
+  Linked state.Memory number a b door to before after h g = ⊥
+  Linked end number a b door to before after h g = (after ≡ before) × (g ≡ h) × (to ≡ left_by end door)
+
+module _ {PL R : Type 0} (k : Talk PL) (some : State) (tape : R → Tape) where
+  -- one more member, that came by the door and was served at the desk
+  pub record ServesNext (old new : AtDesk) (from to : Outside) (m : Member R) : Type 0 where
+    pub desk : m.desk ≡ old.names.number
+    pub books : Books
+    pub served : IsServed k (working some old no_books from.clock from.dice) (working some new books to.clock to.dice) (tape m.served.tape) m.served.end m.served.turns
+    pub door : to.door ≡ gave_more 1 from.door
+
+  -- one more member, or an end, at which neither desk nor clock nor dice were used
+  abbrev pub Turn : WorkState → AtDesk → AtDesk → Outside → Outside → List (Member R) → List (Member R) → Type 0
+  Turn state.Ready old new from to before after = (m : Member R) × (after ≡ before ++ m ∷ []) × ServesNext old new from to m
+  Turn state.Done old new from to before after = ⊥
+  Turn end old new from to before after = (after ≡ before) × (new ≡ old) × (to ≡ record from { door = left_by end from.door })
+
+  -- one turn of a worker
+  pub record Turns (hall : Rooms State Catalog) (old new : AtDesk) (from to : Outside) (before after : List (Member R)) (end : WorkState) : Type 0 where
+    pub sits : Sits hall new
+    pub turn : Turn end old new from to before after
+
+  -- All turns of a worker, which had served nobody, and may serve so many: its members are all for whom its desk was used,
+  -- each explained with its part of it, with nothing left; there is one for each link that its door gave; and it ended for this
+  -- reason, with so many left.
+  pub record Worked (hall : Rooms State Catalog) (old new : AtDesk) (from to : Outside) (most left : ℕ) (members : List (Member R)) (end : WorkState) : Type 0 where
+    pub lives : List Life
+    pub sits : Sits hall new
+    pub serves : Serves some (ExplainedBy k) old new lives
+    pub follow : Follow tape from members lives to
+    pub numbers : All (λ (m : Member R). m.desk ≡ old.names.number) members
+    pub door : to.door ≡ left_by end (gave_more (length members) from.door)
+    pub counts : length members + left ≡ most
+    pub stops : StopsWith end left
+
+module _ {C D T V : Type 0} where
+  -- the bench is there, and its desk is of this hall
+  unfoldable pub SitsAt : Rooms State Catalog → Option (Bench C D T V) → Type 0
+  SitsAt hall None = ⊥
+  SitsAt hall (Some bench) = Sits hall bench.desk
+
+module _ {PL R C D T V : Type 0} (k : Talk PL) (some : State) (tape : R → Tape) (told : T → Source ℤ) (rolled : D → Source (List ℕ)) where
+  -- the bench is there, before and after all turns of the worker who has it, with this door and share
+  unfoldable pub WorkedThere : Rooms State Catalog → Option (Bench C D T V) → Option (Bench C D T V) → DoorTold → DoorTold → ℕ → ℕ → List (Member R) → WorkState → Type 0
+  WorkedThere hall None new was is most left members end = ⊥
+  WorkedThere hall (Some a) None was is most left members end = ⊥
+  WorkedThere hall (Some a) (Some b) was is most left members end =
+      Worked k some tape hall a.desk b.desk (outside (told a.clock) (rolled a.dice) was) (outside (told b.clock) (rolled b.dice) is) most left members end

@@ -1,0 +1,57 @@
+// Workers, each on a thread of its own.
+ghost use Rattle.std.specs.Prelude.{◌≡◌, ◌<◌, ℕ, [], All, length, slice_index_or};
+ghost use Rattle.reql_serve.specs.Working.{SitsAt, WorkedThere};
+
+use crate::worker::{Worker, work};
+use reql_catalog::Catalogue;
+use reql_hall::Hall;
+use reql_law::TableEngine;
+use reql_net::Door;
+use reql_outside::{Clock, Dice, Link};
+use reql_story::Planning;
+use reql_talk::Planner;
+use std::alloc::Global;
+use std::sync::Wait;
+use std::thread;
+use std::thread::Threads;
+
+/// Serves the links of each worker's door, up to its share, each worker on a thread of its own where one can be made.
+/// They share the hall, at whose desks they sit. A worker that ends leaves the others as they are.
+pub fn serve_all<R, C, P, G, D, T>(
+    rt: &R,
+    alloc: Global,
+    hall: &Hall<C, Catalogue>,
+    slots: u32,
+    planner: &P,
+    workers: &mut [Worker<C, G, D, T>],
+)
+where
+    R: Threads + Wait + Sync,
+    C: TableEngine + Drop + Send,
+    P: Planner<View = <C as TableEngine>::View> + Sync,
+    <P as Planning>::Plan: Drop + Send,
+    <P as Planner>::Course: Drop + Send,
+    <P as Planner>::View: Send,
+    G: Door + Send,
+    G::Link: Send,
+    <G::Link as Link>::Record: Send,
+    D: Dice + Drop + Send,
+    T: Clock + Drop + Send,
+    requires of_this_hall { All (λ w. SitsAt hall.now w.bench) workers.old }
+    requires slots { slots ≡ length hall.now.slots }
+    requires unused { All (λ w. w.ended.items ≡ []) workers.old }
+    ensures { (k : ℕ) (w : _) → k < length workers.old
+        → WorkedThere (P.talk planner.now) C.some_state G.Link.kept T.told D.told hall.now
+        (slice_index_or workers.old k w).bench (slice_index_or workers.new k w).bench
+        (G.told (slice_index_or workers.old k w).door) (G.told (slice_index_or workers.new k w).door)
+        (slice_index_or workers.old k w).left (slice_index_or workers.new k w).left
+        (slice_index_or workers.new k w).ended.items (slice_index_or workers.new k w).state }
+{
+    let threads = workers.len().max(1);
+    thread::for_each_mut(
+        rt,
+        workers,
+        threads,
+        &|_, worker| work(rt, alloc, hall, slots, planner, worker),
+    );
+}
