@@ -1,3 +1,6 @@
 pub mod Desks
+pub mod Gathering
+pub mod Seating
 pub mod Sends
+pub mod Sharing
 pub mod Working
