@@ -1,4 +1,3 @@
 pub mod Endings
 pub mod Holding
-pub mod Listening
 pub mod Running

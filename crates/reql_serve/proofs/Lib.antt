@@ -1,6 +1,3 @@
 pub mod Desks
-pub mod Gathering
-pub mod Seating
 pub mod Sends
-pub mod Sharing
 pub mod Working

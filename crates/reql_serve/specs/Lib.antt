@@ -1,3 +1,2 @@
-pub mod Many
 pub mod Serving
 pub mod Working

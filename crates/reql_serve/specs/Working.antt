@@ -44,17 +44,6 @@ StopsWith state.Ready left = Unit {0}
 StopsWith state.Done left = left ≡ 0
 StopsWith end left = 0 < left
 
--- it is there, and so
-abbrev pub IsThere : {A : Type 0} → Option A → (A → Type 0) → Type 0
-IsThere None so = ⊥
-IsThere (Some a) so = so a
-
--- both are there, and so
-abbrev pub AreThere : {A : Type 0} → Option A → Option A → (A → A → Type 0) → Type 0
-AreThere None new so = ⊥
-AreThere (Some a) None so = ⊥
-AreThere (Some a) (Some b) so = so a b
-
 module _ {R : Type 0} (tape : R → Tape) where
   -- What is told of a member by the record of its link, its end and its turns, and by the clock and the dice before and after
   -- it: what these answered it, and that they failed only where they aren't sound.
