@@ -1,3 +1,7 @@
 pub mod Desks
+pub mod Crew
+pub mod Gathering
+pub mod Seating
 pub mod Sends
+pub mod Sharing
 pub mod Working

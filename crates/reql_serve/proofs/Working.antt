@@ -1,9 +1,9 @@
 -- A worker's turns, one after another.
-use Rattle.std.proofs.Common.{◌≡◌, ◌≢◌, ℕ, ℤ, ◌+◌, ◌<◌, List, [], ◌∷◌, ◌++◌, length, All, Option, Some, refl, sym, ap, subst, ◌∙◌, arith}
+use Rattle.std.proofs.Common.{◌≡◌, ◌≢◌, ℕ, ℤ, ◌+◌, ◌<◌, List, [], ◌∷◌, ◌++◌, length, All, Option, Some, None, refl, sym, ap, subst, ◌∙◌, arith}
 use Rattle.std.proofs.lemmas.List.{length_push}
 use Rattle.std.proofs.lemmas.List.Elements.{All-push}
 use Rattle.reql_outside.specs.Source.{Source}
-use Rattle.reql_outside.specs.Tape.{Tape, counted}
+use Rattle.reql_outside.specs.Tape.{Tape}
 use Rattle.reql_outside.proofs.Moving.{counted_twice}
 use Rattle.reql_net.specs.Doors.{DoorTold}
 use Rattle.reql_hall.specs.Rooms.{Rooms, Sits}
@@ -20,7 +20,7 @@ use Rattle.reql_talk.specs.World.{AtWork, Gave, IsServed}
 use Rattle.reql_desk_moves.specs.Acting.{AtDesk}
 use Rattle.reql_session.specs.Settling.{working}
 use Rattle.reql_session.specs.declared.session.Bench.{Bench}
-use Rattle.reql_serve.specs.Working.{Outside, outside, gave_more, left_by, StopsWith, WorkedThere, IsLifeOf, Follow, ServesNext, Linked, Turn, Turns, Worked}
+use Rattle.reql_serve.specs.Working.{Outside, outside, gave_more, left_by, StopsWith, IsThere, AreThere, SitsAt, WorkedThere, IsLifeOf, Follow, ServesNext, Linked, Turns, Worked}
 use Rattle.reql_serve.specs.declared.worker.Member.{Member}
 use Rattle.reql_serve.specs.declared.worker.WorkState.{WorkState}
 use Rattle.reql_serve.specs.declared.worker.WorkState.TheVariants as state
@@ -216,3 +216,19 @@ module _ {PL R C D T V : Type 0} (k : Talk PL) (some : State) (tape : R → Tape
       → WorkedThere k some tape told rolled hall old (Some b) was is most left members end
   unfolding WorkedThere
   there_both hall old a b was is most left members end e h = subst (λ z. WorkedThere k some tape told rolled hall z (Some b) was is most left members end) (sym e) h
+
+module _ {C D T V : Type 0} where
+  -- who sits there, by the word that threads are told it by
+  pub sits_at : (hall : Rooms State Catalog) (bench : Option (Bench C D T V)) → IsThere bench (λ (b : Bench C D T V). Sits hall b.desk) → SitsAt hall bench
+  unfolding SitsAt
+  sits_at hall None h = h
+  sits_at hall (Some b) h = h
+
+module _ {PL R C D T V : Type 0} (k : Talk PL) (some : State) (tape : R → Tape) (told : T → Source ℤ) (rolled : D → Source (List ℕ)) where
+  pub worked_there : (hall : Rooms State Catalog) (old new : Option (Bench C D T V)) (was is : DoorTold) (most left : ℕ) (members : List (Member R)) (end : WorkState)
+      → WorkedThere k some tape told rolled hall old new was is most left members end
+      → AreThere old new (λ (a b : Bench C D T V). Worked k some tape hall a.desk b.desk (outside (told a.clock) (rolled a.dice) was) (outside (told b.clock) (rolled b.dice) is) most left members end)
+  unfolding WorkedThere
+  worked_there hall None new was is most left members end h = h
+  worked_there hall (Some a) None was is most left members end h = h
+  worked_there hall (Some a) (Some b) was is most left members end h = h

@@ -1,5 +1,5 @@
 -- What a worker did.
-use Rattle.std.specs.Prelude.{◌≡◌, ◌<◌, ◌+◌, ℕ, ℤ, Bool, true, false, List, [], ◌∷◌, ◌++◌, length, All, Option, Some, None}
+use Rattle.std.specs.Prelude.{◌≡◌, ◌<◌, ◌+◌, ℕ, ℤ, true, List, [], ◌∷◌, ◌++◌, length, All, Option, Some, None}
 use Rattle.reql_outside.specs.Source.{Source}
 use Rattle.reql_outside.specs.Tape.{Tape, counted}
 use Rattle.reql_net.specs.Doors.{DoorTold}
@@ -43,6 +43,17 @@ abbrev pub StopsWith : WorkState → ℕ → Type 0
 StopsWith state.Ready left = Unit {0}
 StopsWith state.Done left = left ≡ 0
 StopsWith end left = 0 < left
+
+-- it is there, and so
+abbrev pub IsThere : {A : Type 0} → Option A → (A → Type 0) → Type 0
+IsThere None so = ⊥
+IsThere (Some a) so = so a
+
+-- both are there, and so
+abbrev pub AreThere : {A : Type 0} → Option A → Option A → (A → A → Type 0) → Type 0
+AreThere None new so = ⊥
+AreThere (Some a) None so = ⊥
+AreThere (Some a) (Some b) so = so a b
 
 module _ {R : Type 0} (tape : R → Tape) where
   -- What is told of a member by the record of its link, its end and its turns, and by the clock and the dice before and after

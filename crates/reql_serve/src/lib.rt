@@ -1,11 +1,14 @@
-//! Sessions served over a hall: one, at the one desk of a hall that is opened for it and closed after it, or many, by workers on
-//! threads that each have a desk of the hall and a door.
+//! Sessions served over a hall: one, at the one desk of a hall that is opened for it and closed after it, or many, by workers
+//! that each have a desk and a door.
 #![tactic(auto)]
 
+mod many;
 mod one;
+mod seats;
 mod serving;
 mod worker;
 
+pub use many::{Left, Many, serve_many, shares_add_up};
 pub use one::{Ended, serve_one};
 pub use serving::serve_all;
 pub use worker::{Member, WorkState, Worker};

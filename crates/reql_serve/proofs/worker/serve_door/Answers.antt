@@ -1,4 +1,4 @@
-use Rattle.std.proofs.Common.{◌≡◌, ◌≢◌, ◌<◌, ◌-◌, arith, rules}
+use Rattle.std.proofs.Common.{◌≡◌, ◌≢◌, arith, rules}
 use Rattle.reql_serve.specs.declared.worker.WorkState.TheVariants as state
 use Rattle.reql_serve.proofs.Working.{worked_none, worked_more, worked_last}
 use Rattle.reql_serve.proofs.worker.serve_door.Goals as goal

@@ -1,4 +1,4 @@
-use Rattle.std.proofs.Common.{◌≡◌, ◌++◌, ◌∷◌, [], refl}
+use Rattle.std.proofs.Common.{refl}
 use Rattle.reql_serve.proofs.worker.serve_link.Goals as goal
 
 pub returns-in-Link-clause-linked : goal.returns-in-Link-clause-linked

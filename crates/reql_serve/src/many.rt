@@ -1,0 +1,92 @@
+// Many sessions, by workers at the desks of one hall.
+ghost use Rattle.std.specs.Prelude.{◌≡◌, All, IfOk, map};
+ghost use Rattle.reql_catalog.specs.Machine.{catalogue_machine};
+ghost use Rattle.reql_serve.specs.Working.{outside};
+ghost use Rattle.reql_serve.specs.Many.{SharesAddUp, ServesMany, at_end};
+
+use crate::seats::{Parted, part, seat_all};
+use crate::serving::serve_all;
+use crate::worker::{Member, WorkState};
+use reql_catalog::Catalogue;
+use reql_hall::{FinalHall, Hall};
+use reql_law::TableEngine;
+use reql_memory::Memory;
+use reql_net::{Door, Post};
+use reql_outside::{Clock, Dice, Link};
+use reql_story::Planning;
+use reql_talk::Planner;
+use std::alloc::Global;
+use std::sync::Wait;
+use std::thread::Threads;
+
+/// A worker as it ended.
+#[derive(Drop)]
+pub struct Left<G: Door> {
+    pub door: G,
+    /// The sessions that it served, in their order.
+    pub ended: Vec<Member<<G::Link as Link>::Record>>,
+    /// How many sessions of its share it did not serve.
+    pub left: u64,
+    pub state: WorkState,
+}
+
+/// What is left of a server of many sessions: its workers as they ended, in the order of their desks, and the hall with its
+/// whole histories.
+#[derive(Drop)]
+pub struct Many<C: TableEngine, G: Door> {
+    pub workers: Vec<Left<G>>,
+    pub hall: FinalHall<C, Catalogue>,
+}
+
+/// Serves up to so many sessions at a hall of these names and engines, which nobody has used: a worker for each post, on a
+/// thread of its own where one can be made, each at a desk of its own, with its share of the sessions. Memory where there is
+/// none to begin with, or more than 2^32 - 1 posts; then no door was asked.
+pub fn serve_many<R, C, P, G, D, T>(
+    rt: &R,
+    alloc: Global,
+    names: Catalogue,
+    engines: Vec<C>,
+    planner: &P,
+    posts: Vec<Post<G, D, T>>,
+    sessions: u64,
+) -> Result<Many<C, G>, Memory>
+where
+    R: Threads + Wait + Sync,
+    C: TableEngine + Drop + Send,
+    P: Planner<View = <C as TableEngine>::View> + Sync,
+    <P as Planning>::Plan: Drop + Send,
+    <P as Planner>::Course: Drop + Send,
+    <P as Planner>::View: Send,
+    G: Door + Drop + Send,
+    G::Link: Send,
+    <G::Link as Link>::Record: Drop + Send,
+    D: Dice + Drop + Send,
+    T: Clock + Drop + Send,
+    requires names_unused { catalogue_machine.place names ≡ 0 }
+    requires slots_unused { All (λ e. C.machine.place (C.state e) ≡ 0) engines.items }
+    ensures { IfOk result (λ many. ServesMany (P.talk planner.now) C.some_state G.Link.kept C.state (λ n. n) names
+        (map C.state engines.items) (map (λ p. outside (T.told p.clock) (D.told p.dice) (G.told p.door)) posts.items) sessions
+        (map (λ w. at_end (G.told w.door) w.ended.items w.left w.state) many.workers.items) many.hall) }
+{
+    let Ok(slots) = u32::try_from(engines.len()) else {
+        return Err(Memory);
+    };
+    let Ok(count) = u32::try_from(posts.len()) else {
+        return Err(Memory);
+    };
+    let room_after = Parted::with_room(alloc, posts.len())?;
+    let (hall, desks, room) = Hall::new(alloc, names, engines, count)?;
+    let mut workers = seat_all(alloc, posts, desks, sessions)?;
+    serve_all(rt, alloc, &hall, slots, planner, &mut workers);
+    let parted = part(workers, room_after);
+    let hall = hall.close(rt, parted.desks, room);
+    Ok(Many {
+        workers: parted.left,
+        hall,
+    })
+}
+
+/// The shares of all workers are all sessions.
+pub fn shares_add_up()
+    ensures { SharesAddUp }
+{}
