@@ -1,7 +1,9 @@
 -- What a stable sort of elements with their keys leaves.
 use Rattle.std.proofs.Common.{◌≡◌, refl, sym, ap, ◌∙◌, ℕ, ◌<◌, ◌+◌, false, length, drop, get_or, List, [], ◌∷◌, ◌++◌, append_assoc, map, Ok, Err, Option, Bool, Result, IfOk}
 use Rattle.std.proofs.lemmas.Option.{slice_get-get_or}
-use Rattle.std.specs.Ordering.{is_lt, on}
+use Rattle.std.specs.declared.cmp.Ordering.{Ordering}
+use Rattle.std.specs.declared.cmp.Ordering.TheVariants.{Less, Equal, Greater}
+use Rattle.std.specs.Ordering.{is_lt, on, ordering_then}
 use Rattle.std.specs.List.Sorted.{IsSortedBy, IsStableBy, IsSorted, IsStable, IsStrictlySortedBy}
 use Rattle.std.proofs.lemmas.List.Sorted.{ranks_by}
 use Rattle.reql_datum.specs.Order.{order}
@@ -17,8 +19,9 @@ use Rattle.reql_rules.specs.Mapping.{if_any}
 use Rattle.reql_rules.specs.Sorting.{keys_from, sorted, distinct, keyed_order}
 use Rattle.reql_rules.proofs.Stable.{is_sorted, map_sorted}
 use Rattle.reql_rules.proofs.Keys.{keyed_ranks}
-use Rattle.reql_seq.specs.Seen.{keyed}
+use Rattle.reql_seq.specs.Seen.{keyed, ranked}
 use Rattle.reql_seq.specs.declared.sorting.Keyed.{Keyed}
+use Rattle.reql_seq.specs.declared.sorting.Ranked.{Ranked}
 
 -- whether an element stands before another
 abbrev pub before : List Bool → Keyed → Keyed → Bool
@@ -29,6 +32,22 @@ pub sorted_rows : (down : List Bool) (rows out : List Keyed) → IsSortedBy (bef
 sorted_rows down rows out s t =
     ap (map keyed) (is_sorted (λ a b. keyed_order down (keyed a) (keyed b)) (keyed_ranks keyed down) rows out s t)
     ∙ map_sorted keyed (keyed_order down) rows
+
+-- the same of rows that hold their one key
+abbrev pub ranked_before : Bool → Ranked → Ranked → Bool
+ranked_before falls a b = is_lt (keyed_order (falls ∷ []) (ranked a) (ranked b))
+
+pub sorted_ranked : (falls : Bool) (rows out : List Ranked) → IsSortedBy (ranked_before falls) out → IsStableBy (ranked_before falls) rows out
+    → map ranked out ≡ sorted (keyed_order (falls ∷ [])) (map ranked rows)
+sorted_ranked falls rows out s t =
+    ap (map ranked) (is_sorted (λ a b. keyed_order (falls ∷ []) (ranked a) (ranked b)) (keyed_ranks ranked (falls ∷ [])) rows out s t)
+    ∙ map_sorted ranked (keyed_order (falls ∷ [])) rows
+
+-- no key comes after the first
+pub then_equal : (o : Ordering) → ordering_then o Equal ≡ o
+then_equal Less = refl
+then_equal Equal = refl
+then_equal Greater = refl
 
 -- what is left at a place is the member there, and what is left after it
 pub rest_within : (xs : List Bool) (i : ℕ) → i < length xs → drop i xs ≡ get_or xs i false ∷ drop (i + 1) xs

@@ -1,5 +1,5 @@
 -- What is kept beside elements, as what it stands for: keys, sums, and the best so far.
-use Rattle.std.specs.Prelude.{ℕ, ℤ, Bool, List, Option, option_map, map}
+use Rattle.std.specs.Prelude.{ℕ, ℤ, Bool, List, [], ◌∷◌, Option, option_map, map}
 use Rattle.std.specs.Borrow.{Bor}
 use Rattle.std.specs.Ordering.{is_lt, is_gt}
 use Rattle.reql_datum.specs.Order.{order}
@@ -8,6 +8,7 @@ use Rattle.reql_datum.specs.View.{plain}
 use Rattle.reql_datum.specs.declared.datum.Datum.{Datum}
 use Rattle.reql_rules.specs.Sorting as sorting
 use Rattle.reql_seq.specs.declared.sorting.Keyed.{Keyed}
+use Rattle.reql_seq.specs.declared.sorting.Ranked.{Ranked}
 use Rattle.reql_seq.specs.declared.totals.Tally.{Tally}
 use Rattle.reql_seq.specs.declared.totals.Leader.{Leader}
 use Rattle.reql_seq.specs.declared.totals.End.{End}
@@ -25,6 +26,9 @@ keys_seen ks = map key_seen ks
 
 abbrev pub keyed : Keyed → sorting.Keyed
 keyed k = (keys_seen k.keys.items, plain k.value)
+
+abbrev pub ranked : Ranked → sorting.Keyed
+ranked r = (key_seen r.key ∷ [], plain r.value)
 
 abbrev pub sum_seen : Tally → ℤ × ℕ
 sum_seen s = (s.total, s.count)
