@@ -5,3 +5,4 @@ mod Among
 mod Written
 mod Two
 mod Texts
+mod Gathered

@@ -10,13 +10,15 @@ ghost use Rattle.reql_rules.specs.Faults.{cannot_coerce, bad_name_in_object};
 ghost use Rattle.reql_rules.specs.Objects.{as_pair, put_new};
 ghost use Rattle.reql_rules.specs.Types.{same_text, truth};
 ghost use Rattle.reql_scalar.specs.Digits.{number_of};
-ghost use Rattle.reql_scalar.specs.Two.{named, two_in, put_pair, put_pairs};
+ghost use Rattle.reql_scalar.specs.Two.{named, two_in, put_pair, put_pairs, gathered};
 ghost use Rattle.reql_scalar.specs.Told.{Tells};
 
 use crate::digits::number_of;
+use crate::gathering::{built, gather};
 use crate::numbers::query_logic;
 use reql_datum::{Blob, Datum, Fault, Fields, Items, Memory, Name};
 use std::alloc::Global;
+use std::collections::BTreeMap;
 
 fn refusal(alloc: Global, kind: &str, to: &str) -> Result<Name, Memory>
     ensures { IfOk result (λ s. cannot_coerce kind.now to.now ≡ query_logic s) }
@@ -106,7 +108,7 @@ fn pair_in(d: &Datum) -> Option<(&Name, &Datum)>
     }
 }
 
-fn bad_name(alloc: Global) -> Fault
+pub(crate) fn bad_name(alloc: Global) -> Fault
     ensures { Tells result bad_name_in_object }
 {
     query_logic(alloc, "Bad name in object.")
@@ -126,38 +128,45 @@ pub fn put_new(alloc: Global, fields: &mut Fields, name: &Name, value: &Datum) -
     Ok(())
 }
 
-fn put(fields: &mut Fields, name: Name, value: Datum) -> Result<(), Memory>
+pub(crate) fn put(fields: &mut Fields, name: Name, value: Datum) -> Result<(), Memory>
     ensures { IfOk result (λ _. fields.new ≡ put name (plain value) fields.old) }
 {
     drop(fields.put(name, value)?);
     Ok(())
 }
 
-fn is_same(this: &str, other: &str) -> bool
+pub(crate) fn is_same(this: &str, other: &str) -> bool
     ensures { result ≡ same_text this.now other.now }
 {
     this.cmp(other).is_eq()
 }
 
-fn put_pair(alloc: Global, fields: &mut Fields, kind: &str, item: &Datum) -> Result<(), Fault>
-    ensures { Gives (λ _. fields.new) result (put_pair kind.now (plain item.now) fields.old) }
+fn gather_pair(
+    alloc: Global,
+    named: &mut BTreeMap<Name, Datum>,
+    kind: &str,
+    item: &Datum,
+) -> Result<(), Fault>
+    ensures { Gives (λ _. gathered named.new.entries) result
+        (put_pair kind.now (plain item.now) (gathered named.old.entries)) }
 {
     match pair_in(item) {
-        Some((name, value)) => put_new(alloc, fields, name, value),
+        Some((name, value)) => gather(alloc, named, name, value),
         None => Err(refused(alloc, kind, "object")),
     }
 }
 
+// The object of pairs, in n log n steps whatever the order of the names.
 fn object_of(alloc: Global, kind: &str, items: &Items) -> Result<Fields, Fault>
     ensures { Gives (λ ms. ms) result (put_pairs kind.now [] items.now) }
 {
-    let mut fields = Fields::with_room(alloc, items.len())?;
+    let mut named = BTreeMap::new(alloc);
     let mut place = 0;
     while let Some(item) = items.at(place) {
-        put_pair(alloc, &mut fields, kind, item)?;
+        gather_pair(alloc, &mut named, kind, item)?;
         place += 1;
     }
-    Ok(fields)
+    Ok(built(alloc, named)?)
 }
 
 #[tactic(auto, using(crate::proofs::Two::object_is))]

@@ -5,6 +5,7 @@ mod adding;
 mod coercing;
 mod digits;
 mod editing;
+mod gathering;
 mod numbers;
 mod parts;
 mod relating;
