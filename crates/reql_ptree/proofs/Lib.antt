@@ -15,5 +15,6 @@ pub mod InPlace
 pub mod RemoveInPlace
 pub mod Spent
 pub mod Ranges
+pub mod Ranks
 pub mod Gathered
 pub mod Gathering

@@ -21,7 +21,7 @@ module _ (p q : Plain × Plain → Bool) where
   filter_none [] all = refl
   filter_none (m ∷ ms) all = rw (all.0) (filter_none ms all.1)
 
-  filter_same : (ms : List (Plain × Plain)) → AllByRecursion (λ m. p m ≡ q m) ms → filter p ms ≡ filter q ms
+  pub filter_same : (ms : List (Plain × Plain)) → AllByRecursion (λ m. p m ≡ q m) ms → filter p ms ≡ filter q ms
   filter_same [] all = refl
   filter_same (m ∷ ms) all = rw (all.0, filter_same ms all.1) refl
 

@@ -9,6 +9,7 @@ mod in_place;
 mod look;
 mod put;
 mod range;
+mod rank;
 mod remove;
 mod remove_in_place;
 mod seek;

@@ -128,7 +128,8 @@ pub(crate) fn chunk_prev<'a, L>(
     pair_at(pairs, place - 1)
 }
 
-fn pair_at(pairs: &[Pair], place: usize) -> Option<(&Datum, &Datum)>
+/// The pair at a place.
+pub(crate) fn pair_at(pairs: &[Pair], place: usize) -> Option<(&Datum, &Datum)>
     ensures { option_map pair_seen result ≡ slice_get (map pair pairs.now) place }
 {
     match pairs.get(place) {

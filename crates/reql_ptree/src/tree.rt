@@ -1,9 +1,9 @@
 // A persistent map in the order of its keys.
-ghost use Rattle.std.specs.Prelude.{◌≡◌, ◌+◌, ◌*◌, ◌≤◌, [], length, take, reverse, IfOk, IfErr, is_ok, option_map, if◌then◌else◌};
+ghost use Rattle.std.specs.Prelude.{◌≡◌, ◌+◌, ◌*◌, ◌≤◌, [], length, take, drop, reverse, slice_get, IfOk, IfErr, is_ok, option_map, if◌then◌else◌};
 ghost use Rattle.std.specs.List.{count_by};
 ghost use Rattle.reql_datum.specs.View.{plain};
 ghost use Rattle.reql_ptree.specs.Next.{behind, next_of, prev_of};
-ghost use Rattle.reql_ptree.specs.Pairs.{find, put, without};
+ghost use Rattle.reql_ptree.specs.Pairs.{AreRising, find, put, without};
 ghost use Rattle.reql_ptree.specs.Range.{range_of};
 ghost use Rattle.reql_ptree.specs.Seen.{pair_seen};
 ghost use Rattle.reql_ptree.specs.Tall.{tall};
@@ -12,6 +12,7 @@ use crate::in_place::top_put;
 use crate::look::{count_in, next_in, prev_in, value_in};
 use crate::put::side_put;
 use crate::range::{Cut, Range, range_in};
+use crate::rank::place_in;
 use crate::remove::side_remove;
 use crate::remove_in_place::top_remove;
 use crate::side::Side;
@@ -177,6 +178,14 @@ impl Tree {
         count_in(&self.top, key, past, steps)
     }
 
+    /// The pair at a place among all pairs, counted from 0.
+    pub fn at<L>(&self, place: u64, steps: &mut Steps<L>) -> Option<(&Datum, &Datum)>
+        ensures found { option_map pair_seen result ≡ slice_get self.now place }
+        ensures counted { steps.new ≤ steps.old + tall (length self.now) }
+    {
+        place_in(&self.top, place, steps)
+    }
+
     /// The values at the keys from one to another, an end itself left out if it is open.
     pub fn range<L>(
         &self,
@@ -264,5 +273,70 @@ impl Tree {
             most,
         };
         range_in(self.alloc, &self.top, &range, steps)
+    }
+
+    // The keys rise.
+    fn rising(&self)
+        ensures { AreRising self.now }
+    {
+        let _facts = self.top.height();
+    }
+
+    /// The values of a range from a place in it on, at most so many. What stands before that place
+    /// is counted, and not read.
+    pub fn range_from<L>(
+        &self,
+        low: &Datum,
+        low_open: bool,
+        high: &Datum,
+        high_open: bool,
+        from: u64,
+        most: u64,
+        steps: &mut Steps<L>,
+    ) -> Result<Items, Memory>
+        ensures values { IfOk result (λ items. items ≡ take most (drop from
+            (range_of (plain low.now) low_open (plain high.now) high_open self.now))) }
+        ensures counted { steps.new ≤ steps.old + (4 * tall (length self.now) + length
+            (take most (drop from
+            (range_of (plain low.now) low_open (plain high.now) high_open self.now)))) }
+    {
+        let _rises = self.rising();
+        let _all = self.len();
+        let before = self.count_below(low, low_open, steps);
+        let Some(place) = before.checked_add(from) else {
+            return Ok(Items::new(self.alloc));
+        };
+        let Some((key, _)) = self.at(place, steps) else {
+            return Ok(Items::new(self.alloc));
+        };
+        self.range_first(key, false, high, high_open, most, steps)
+    }
+
+    /// The values of a range in falling order, from a place in that on, at most so many.
+    pub fn range_back<L>(
+        &self,
+        low: &Datum,
+        low_open: bool,
+        high: &Datum,
+        high_open: bool,
+        from: u64,
+        most: u64,
+        steps: &mut Steps<L>,
+    ) -> Result<Items, Memory>
+        ensures values { IfOk result (λ items. items ≡ take most (drop from (reverse
+            (range_of (plain low.now) low_open (plain high.now) high_open self.now)))) }
+        ensures counted { steps.new ≤ steps.old + (4 * tall (length self.now) + length
+            (take most (drop from (reverse
+            (range_of (plain low.now) low_open (plain high.now) high_open self.now))))) }
+    {
+        let _rises = self.rising();
+        let through = self.count_below(high, !high_open, steps);
+        if from >= through {
+            return Ok(Items::new(self.alloc));
+        }
+        let Some((key, _)) = self.at(through - from - 1, steps) else {
+            unreachable!()
+        };
+        self.range_last(low, low_open, key, false, most, steps)
     }
 }

@@ -101,8 +101,9 @@ impl TableView for Table {
         from: usize,
         most: usize,
     ) -> Result<Items, ViewFault> {
+        let _alloc = alloc;
         let slice = self.slice(range)?;
-        Ok(part(alloc, &slice, range.down, from, most)?)
+        Ok(part(&slice, range.down, from, most)?)
     }
 
     #[tactic(auto, using(crate::proofs::Turned::count_is))]
