@@ -23,7 +23,7 @@ abbrev pub is_state : Plain → Bool
 is_state = has (codes "state")
 
 abbrev pub lacks_offsets : Plain → Bool
-lacks_offsets item = not (is_state item || (has (codes "old_offset") item || has (codes "new_offset") item))
+lacks_offsets item = not (is_state item || has (codes "old_offset") item || has (codes "new_offset") item)
 
 -- one element that equals what left is there
 abbrev pub is_there : Option Plain → List Plain → Bool

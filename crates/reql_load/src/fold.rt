@@ -2,6 +2,7 @@
 ghost use Rattle.std.specs.Prelude.{◌≡◌, ◌↔◌, map, cond, Some, None, IfOk, IsTrue, option_map};
 ghost use Rattle.std.specs.List.{list_any};
 ghost use Rattle.reql_datum.specs.View.{plain};
+ghost use Rattle.reql_bag.specs.Bag.{in_order};
 ghost use Rattle.reql_load.specs.Folded.{folded, folded_by, is_skip, lacks_offsets};
 
 use crate::heard::{is_skip, lacks_offsets};
@@ -50,10 +51,24 @@ fn fold(
         return Ok(None);
     }
     if lack_offsets(items) {
-        let bag = in_order(alloc, opening.copy()?)?;
-        return fold_by(Way::AsBag, copies(alloc, &bag)?, items);
+        let bag = fold_bag(alloc, opening, items)?;
+        return Ok(bag);
     }
-    fold_by(Way::ByPlaces, copies(alloc, opening)?, items)
+    let values = copies(alloc, opening)?;
+    let list = fold_by(Way::ByPlaces, values, items)?;
+    Ok(list)
+}
+
+fn fold_bag(
+    alloc: Global,
+    opening: &Items,
+    items: &[(u64, Datum)],
+) -> Result<Option<Vec<Datum>>, Memory>
+    ensures { IfOk result (λ list. option_map (λ v. map plain v.items) list
+        ≡ folded_by Way.AsBag (in_order opening.now) (map (λ i. plain i.1) items.now)) }
+{
+    let bag = in_order(alloc, opening.copy()?)?;
+    fold_by(Way::AsBag, copies(alloc, &bag)?, items)
 }
 
 fn copies(alloc: Global, items: &Items) -> Result<Vec<Datum>, Memory>
@@ -63,16 +78,14 @@ fn copies(alloc: Global, items: &Items) -> Result<Vec<Datum>, Memory>
     Ok(list)
 }
 
-#[tactic(auto, using(crate::proofs::Places::any_mapped))]
 fn has_skip(items: &[(u64, Datum)]) -> bool
-    ensures { result ≡ list_any is_skip (map (λ i. plain i.1) items.now) }
+    ensures { result ≡ list_any (λ i. is_skip (plain i.1)) items.now }
 {
     items.iter().any(|item| is_skip(&item.1))
 }
 
-#[tactic(auto, using(crate::proofs::Places::any_mapped))]
 fn lack_offsets(items: &[(u64, Datum)]) -> bool
-    ensures { result ≡ list_any lacks_offsets (map (λ i. plain i.1) items.now) }
+    ensures { result ≡ list_any (λ i. lacks_offsets (plain i.1)) items.now }
 {
     items.iter().any(|item| lacks_offsets(&item.1))
 }

@@ -1,5 +1,5 @@
 // What stands in an item.
-ghost use Rattle.std.specs.Prelude.{◌≡◌, option_map, option_and_then};
+ghost use Rattle.std.specs.Prelude.{◌≡◌, is_none, option_map, option_and_then};
 ghost use Rattle.reql_datum.specs.View.{plain};
 ghost use Rattle.reql_feed_law.specs.Items.{present};
 ghost use Rattle.reql_feed_law.specs.Shown.{member_at, natural, place_of};
@@ -29,10 +29,23 @@ pub(crate) fn value<'a>(item: &'a Datum, name: &str) -> Option<&'a Datum>
     }
 }
 
+/// Whether nothing stands there, or null.
+pub(crate) fn is_absent(item: &Datum, name: &str) -> bool
+    ensures { result ≡ is_none (option_and_then present (member_at name.now (plain item.now))) }
+{
+    match value(item, name) {
+        Some(_) => false,
+        None => true,
+    }
+}
+
 fn has(item: &Datum, name: &str) -> bool
     ensures { result ≡ has name.now (plain item.now) }
 {
-    member(item, name).is_some()
+    match member(item, name) {
+        Some(_) => true,
+        None => false,
+    }
 }
 
 /// Whether the item tells that others were dropped.

@@ -75,7 +75,6 @@ fn split(docs: &[u32], most: usize) -> (&[u32], &[u32])
     docs.split_at(most)
 }
 
-#[tactic(auto, using(crate::proofs::Rounds::rounds_on))]
 fn put_rounds(
     alloc: Global,
     writer: &mut Writer,
@@ -93,7 +92,7 @@ fn put_rounds(
     Ok(())
 }
 
-#[tactic(auto, using(crate::proofs::Writing::round_written), unfolding(crate::specs::Script::range_body, crate::specs::Script::limit_body))]
+#[tactic(auto, unfolding(crate::specs::Script::range_body, crate::specs::Script::limit_body))]
 fn put_round(
     alloc: Global,
     writer: &mut Writer,

@@ -1,5 +1,5 @@
 // One item more of what is folded.
-ghost use Rattle.std.specs.Prelude.{◌≡◌, ◌≤◌, suc, map, length, cond, Some, None, IfOk, OnOk, option_map, codes};
+ghost use Rattle.std.specs.Prelude.{◌≡◌, ◌<◌, ◌≤◌, suc, map, length, cond, Some, None, IfSome, IfOk, OnOk, option_map, codes};
 ghost use Rattle.std.specs.Bool.{OnTrue};
 ghost use Rattle.std.specs.List.{list_any, prefix_len, position};
 ghost use Rattle.std.specs.Ordering.{is_lt};
@@ -10,7 +10,7 @@ ghost use Rattle.reql_feed_law.specs.Fold.{coming, leaving, cut, put_at};
 ghost use Rattle.reql_feed_law.specs.Shown.{member_at, read};
 ghost use Rattle.reql_load.specs.Folded.{bag_step, is_below, is_there, list_step, step};
 
-use crate::heard::{is_state, place_at, value};
+use crate::heard::{is_absent, is_state, place_at, value};
 use reql_datum::{Datum, Memory, compare};
 
 /// How items are folded: as a bag that is kept in order, or by their places in a list.
@@ -59,7 +59,6 @@ fn leave(bag: &mut Vec<Datum>, old: Option<&Datum>) -> bool
     }
 }
 
-#[tactic(auto, using(crate::proofs::Places::taken_out, crate::proofs::Places::none_there))]
 fn take_out(bag: &mut Vec<Datum>, value: &Datum) -> bool
     ensures there { result ≡ list_any (same (plain value.now)) (map plain bag.old.items) }
     ensures left { OnTrue result (map plain bag.new.items
@@ -75,13 +74,13 @@ fn take_out(bag: &mut Vec<Datum>, value: &Datum) -> bool
 }
 
 fn place_of_equal(bag: &[Datum], value: &Datum) -> Option<usize>
-    ensures { result ≡ position (λ d. same (plain value.now) (plain d)) bag.now }
+    ensures first { result ≡ position (λ d. same (plain value.now) (plain d)) bag.now }
+    ensures within { IfSome result (λ place. place < length bag.now) }
 {
     bag.iter().position(|d| compare(value, d).is_eq())
 }
 
 // Puts the value, where there is one, in front of the first that isn't below it.
-#[tactic(auto, using(crate::proofs::Places::put_in_order))]
 fn come(bag: &mut Vec<Datum>, new: Option<&Datum>) -> Result<(), Memory>
     ensures { OnOk result (map plain bag.new.items
         ≡ coming (option_map (λ d. plain d.now) new.entry) (map plain bag.old.items)) }
@@ -96,7 +95,8 @@ fn come(bag: &mut Vec<Datum>, new: Option<&Datum>) -> Result<(), Memory>
 
 // How many at the front are below the value.
 fn count_below(bag: &[Datum], value: &Datum) -> usize
-    ensures { result ≡ prefix_len (λ d. is_lt (order (plain d) (plain value.now))) bag.now }
+    ensures count { result ≡ prefix_len (λ d. is_lt (order (plain d) (plain value.now))) bag.now }
+    ensures within { result ≤ length bag.now }
 {
     bag.iter()
         .take_while(|d| compare(d, value).is_lt())
@@ -122,7 +122,7 @@ fn leave_place(list: &mut Vec<Datum>, item: &Datum) -> bool
         ≡ cut (read (plain item.now)).old_at (map plain list.old.items)) }
 {
     let Some(place) = place_at(item, "old_offset") else {
-        return value(item, "old_offset").is_none();
+        return is_absent(item, "old_offset");
     };
     if place >= list.len() {
         return false;
@@ -140,7 +140,7 @@ fn come_to_place(list: &mut Vec<Datum>, item: &Datum) -> Result<bool, Memory>
         (map plain list.old.items))) None) }
 {
     let Some(place) = place_at(item, "new_offset") else {
-        return Ok(value(item, "new_offset").is_none());
+        return Ok(is_absent(item, "new_offset"));
     };
     if place > list.len() {
         return Ok(false);

@@ -1,0 +1,5 @@
+pub mod Places
+pub mod Rounds
+pub mod Short
+pub mod Tied
+pub mod Writing
