@@ -37,7 +37,7 @@ pub round_written : (seed : ℕ) (docs : List ℕ) (w a b c d e : Written) → a
     → d ≡ with_all c (flat_map edits docs) → e ≡ with_all d ending → e ≡ with_all w (round seed docs)
 round_written seed docs w a b c d e is_a is_b is_c is_d is_e =
     let begun : c ≡ with_request (with_request (with_request w (under 1 range_body)) (under 2 limit_body)) (next (insert_body seed docs)) =
-        is_c ∙ ap (λ (t : Written). with_request t (next (insert_body seed docs))) (is_b ∙ ap (λ (t : Written). with_request t (under 2 limit_body)) is_a) in
+    is_c ∙ ap (λ (t : Written). with_request t (next (insert_body seed docs))) (is_b ∙ ap (λ (t : Written). with_request t (under 2 limit_body)) is_a) in
     is_e ∙ ap (λ (t : Written). with_all t ending) is_d ∙ sym (with_all_joined c (flat_map edits docs) ending) ∙ ap (λ (t : Written). with_all t (flat_map edits docs ++ ending)) begun
 
 -- all requests behind the greeting

@@ -98,7 +98,9 @@ pub(crate) fn insert(alloc: Global, seed: u32, docs: &[u32]) -> Result<String, M
 pub(crate) fn update(alloc: Global, i: u32) -> Result<String, Memory>
     ensures { IfOk result (λ text. string_bytes text ≡ update_body i) }
 {
-    let text = format!(in alloc; "[1,[53,[[16,[[15,[\"load\"]],{i}]],[69,[[2,[1]],{{\"n\":[24,[[170,[[10,[1]],\"n\"]],1]]}}]]]]]")?;
+    let text = format!(in alloc;
+        "[1,[53,[[16,[[15,[\"load\"]],{i}]],[69,[[2,[1]],{{\"n\":[24,[[170,[[10,[1]],\"n\"]],1]]}}]]]]]"
+    )?;
     Ok(text)
 }
 

@@ -90,11 +90,7 @@ fn lack_offsets(items: &[(u64, Datum)]) -> bool
     items.iter().any(|item| lacks_offsets(&item.1))
 }
 
-fn fold_by(
-    way: Way,
-    list: Vec<Datum>,
-    items: &[(u64, Datum)],
-) -> Result<Option<Vec<Datum>>, Memory>
+fn fold_by(way: Way, list: Vec<Datum>, items: &[(u64, Datum)]) -> Result<Option<Vec<Datum>>, Memory>
     ensures { IfOk result (λ folded. option_map (λ v. map plain v.items) folded
         ≡ folded_by way (map plain list.items) (map (λ i. plain i.1) items.now)) }
 {

@@ -10,6 +10,7 @@ use std::alloc::Global;
 
 /// The tokens of a round's two feeds.
 const RANGE_TOKEN: u64 = 1;
+
 const LIMIT_TOKEN: u64 = 2;
 
 /// The token of the one request of the session that makes the index.
@@ -75,12 +76,7 @@ fn split(docs: &[u32], most: usize) -> (&[u32], &[u32])
     docs.split_at(most)
 }
 
-fn put_rounds(
-    alloc: Global,
-    writer: &mut Writer,
-    seed: u32,
-    docs: &[u32],
-) -> Result<(), Memory>
+fn put_rounds(alloc: Global, writer: &mut Writer, seed: u32, docs: &[u32]) -> Result<(), Memory>
     ensures { OnOk result (writer.new ≡ with_all writer.old (rounds seed docs.now)) }
 {
     let mut rest = docs;
@@ -93,12 +89,7 @@ fn put_rounds(
 }
 
 #[tactic(auto, unfolding(crate::specs::Script::range_body, crate::specs::Script::limit_body))]
-fn put_round(
-    alloc: Global,
-    writer: &mut Writer,
-    seed: u32,
-    docs: &[u32],
-) -> Result<(), Memory>
+fn put_round(alloc: Global, writer: &mut Writer, seed: u32, docs: &[u32]) -> Result<(), Memory>
     requires { length docs.now ≤ 100 }
     ensures { OnOk result (writer.new ≡ with_all writer.old (round seed docs.now)) }
 {

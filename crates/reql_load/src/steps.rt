@@ -98,9 +98,7 @@ fn count_below(bag: &[Datum], value: &Datum) -> usize
     ensures count { result ≡ prefix_len (λ d. is_lt (order (plain d) (plain value.now))) bag.now }
     ensures within { result ≤ length bag.now }
 {
-    bag.iter()
-        .take_while(|d| compare(d, value).is_lt())
-        .count()
+    bag.iter().take_while(|d| compare(d, value).is_lt()).count()
 }
 
 fn take_by_places(list: &mut Vec<Datum>, item: &Datum) -> Result<bool, Memory>

@@ -24,7 +24,8 @@ const FIVE: &[u8] = b" -\x0c@\0\0\0\0\xc7pi~\
 \x02\0\0\0\0\0\0\0\x03\0\0\0\
 [3]";
 
-const INDEX: &[u8] = b" -\x0c@\0\0\0\0\xc7pi~\x01\0\0\0\0\0\0\0\x1c\0\0\0[1,[75,[[15,[\"load\"]],\"n\"]]]";
+const INDEX: &[u8] =
+    b" -\x0c@\0\0\0\0\xc7pi~\x01\0\0\0\0\0\0\0\x1c\0\0\0[1,[75,[[15,[\"load\"]],\"n\"]]]";
 
 // Members of an item, each with a number.
 type Members = &'static [(&'static str, i64)];
