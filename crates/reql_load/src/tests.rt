@@ -1,5 +1,5 @@
 use crate::{fold_check, script};
-use reql_datum::{Datum, Fields, Items, Name, Whole};
+use reql_datum::{Datum, Fields, Items, Memory, Name, Whole};
 use std::alloc::Global;
 use std::test::Fail;
 
@@ -84,7 +84,7 @@ fn number(n: i64) -> Datum {
     }
 }
 
-fn list(alloc: Global, numbers: &[i64]) -> Result<Items, Fail> {
+fn list(alloc: Global, numbers: &[i64]) -> Result<Items, Memory> {
     let mut list = Items::new(alloc);
     for n in numbers {
         list.push(number(*n))?;
@@ -92,12 +92,20 @@ fn list(alloc: Global, numbers: &[i64]) -> Result<Items, Fail> {
     Ok(list)
 }
 
-fn item(alloc: Global, members: Members) -> Result<Datum, Fail> {
+fn item(alloc: Global, members: Members) -> Result<Datum, Memory> {
     let mut fields = Fields::new(alloc);
     for (name, n) in members {
         drop(fields.put(Name::of(alloc, name)?, number(*n))?);
     }
     Ok(Datum::Obj(fields))
+}
+
+fn items(alloc: Global, told: &[Members]) -> Result<Vec<(u64, Datum)>, Memory> {
+    let mut items = Vec::new(alloc);
+    for members in told {
+        items.push((1, item(alloc, members)?))?;
+    }
+    Ok(items)
 }
 
 #[test]
@@ -113,10 +121,7 @@ fn sessions_send_the_stated_bytes(rt: HostRuntime) -> Result<(), Fail> {
 fn items_fold_to_what_follows_from_them(rt: HostRuntime) -> Result<(), Fail> {
     let alloc = rt.alloc();
     for (opening, told, wanted, folds) in FOLDS {
-        let mut items = Vec::new(alloc);
-        for members in told {
-            items.push((1, item(alloc, members)?))?;
-        }
+        let items = items(alloc, told)?;
         let (opening, wanted) = (list(alloc, opening)?, list(alloc, wanted)?);
         assert_eq!(rt; fold_check(alloc, &opening, &items, &wanted)?, folds);
     }
