@@ -1,6 +1,6 @@
 -- A list in parts, and the rounds of a session one after another.
-use Rattle.std.proofs.Common.{◌≡◌, ℕ, zero, suc, ◌+◌, ◌-◌, ◌<◌, ◌≤◌, List, [], ◌∷◌, ◌++◌, length, take, drop, flat_map, Bool, true, false, ◌==◌, refl, sym, ap, ◌∙◌, subst, arith, length-drop, lit<}
-use Rattle.reql_load.specs.Script.{Request, per_round, parts, parts_within, round, rounds}
+use Rattle.std.proofs.Common.{◌≡◌, ℕ, zero, suc, ◌+◌, ◌-◌, ◌<◌, ◌≤◌, List, [], ◌∷◌, ◌++◌, length, take, drop, flat_map, Bool, true, false, ◌==◌, refl, sym, ap, ◌∙◌, arith, length-drop, lit<}
+use Rattle.reql_load.specs.Script.{per_round, parts, parts_within, round, rounds}
 use Rattle.reql_load.specs.Writing.{Written, with_all}
 use Rattle.reql_load.proofs.Writing.{with_all_joined}
 

@@ -1,5 +1,5 @@
 -- Bodies are short: a number of 32 bits has at most ten digits.
-use Rattle.std.proofs.Common.{ℕ, ◌+◌, ◌%◌, ◌<◌, ◌≤◌, ◌^◌, ◌++◌, List, length, codes, decimal, arith, length-append}
+use Rattle.std.proofs.Common.{ℕ, ◌+◌, ◌%◌, ◌<◌, ◌≤◌, ◌^◌, length, decimal, arith, length-append}
 use Rattle.std.proofs.lemmas.Fmt.{length-decimal-le}
 use Rattle.reql_load.specs.Script.{document, update_body, delete_body}
 

@@ -1,14 +1,14 @@
 -- What is folded is what the folds of feeds make of the items.
-use Rattle.std.proofs.Common.{◌≡◌, ℕ, suc, ◌+◌, ◌≤◌, List, [], ◌∷◌, Option, Some, None, Bool, true, false, ◌&&◌, ◌||◌, cond, map, length, codes, refl, sym, ap, ◌∙◌, arith}
+use Rattle.std.proofs.Common.{◌≡◌, ℕ, suc, ◌+◌, ◌≤◌, List, [], ◌∷◌, Option, Some, None, Bool, true, false, ◌&&◌, ◌||◌, cond, length, codes, refl, ◌∙◌, arith}
 use Rattle.std.specs.Option.{option_and_then}
 use Rattle.std.specs.List.{list_any}
 use Rattle.reql_datum.specs.Plain.{Plain}
 use Rattle.reql_rules.specs.Types.{same}
-use Rattle.reql_bag.specs.Bag.{times, one}
+use Rattle.reql_bag.specs.Bag.{times}
 use Rattle.reql_feed_law.specs.Fold.{bag_fold, list_fold, cut}
-use Rattle.reql_feed_law.specs.Follows.{BagFollows, IsThere}
+use Rattle.reql_feed_law.specs.Follows.{IsThere}
 use Rattle.reql_feed_law.specs.Shown.{member_at, read}
-use Rattle.reql_load.specs.Folded.{is_state, is_there, is_below, bag_step, list_step, folded_by, FoldsAsBag, BagsThatFollowFold, FoldsByPlaces}
+use Rattle.reql_load.specs.Folded.{is_state, is_there, is_below, folded_by, FoldsAsBag, BagsThatFollowFold, FoldsByPlaces}
 use Rattle.reql_load.specs.declared.steps.Way.TheVariants as ways
 
 neither : (b c : Bool) → (b || c) ≡ false → (b ≡ false) × (c ≡ false)

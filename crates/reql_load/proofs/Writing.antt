@@ -1,5 +1,5 @@
 -- Requests one after another, and the bytes that they make.
-use Rattle.std.proofs.Common.{◌≡◌, ℕ, suc, ◌+◌, ◌<◌, ◌≤◌, List, [], ◌∷◌, ◌++◌, length, drop, get_or, codes, flat_map, refl, sym, ap, ◌∙◌, append_assoc, add-one, arith, length-append, drop-cons}
+use Rattle.std.proofs.Common.{◌≡◌, ℕ, suc, ◌+◌, ◌<◌, ◌≤◌, List, [], ◌∷◌, ◌++◌, length, drop, get_or, flat_map, refl, sym, ap, ◌∙◌, append_assoc, add-one, arith, length-append, drop-cons}
 use Rattle.std.proofs.lemmas.List.{append-nil}
 use Rattle.reql_wire.specs.Frames.{header, spelling, spellings}
 use Rattle.reql_wire.specs.Greeting.{greeting_by}

@@ -1,7 +1,7 @@
 -- What the sessions of the load send, byte for byte: a greeting without a key, and then requests as frames.
-use Rattle.std.specs.Prelude.{ℕ, suc, zero, ◌+◌, ◌*◌, ◌/◌, ◌%◌, ◌==◌, List, [], ◌∷◌, ◌++◌, length, take, drop, filter, flat_map, cond, codes, decimal}
+use Rattle.std.specs.Prelude.{ℕ, suc, zero, ◌+◌, ◌/◌, ◌%◌, ◌==◌, List, [], ◌∷◌, ◌++◌, length, take, drop, filter, flat_map, cond, codes, decimal}
 use Rattle.std.specs.List.{join_by, range_with_len}
-use Rattle.reql_wire.specs.Frames.{spelling, spellings}
+use Rattle.reql_wire.specs.Frames.{spellings}
 use Rattle.reql_wire.specs.Greeting.{greeting_by}
 use Rattle.reql_wire.specs.declared.frame.Frame.{Frame}
 
@@ -10,10 +10,10 @@ pub data Request : Type 0 where
   under : ℕ → List ℕ → Request
   next : List ℕ → Request
 
--- requests as frames; the tokens that rise begin here
 abbrev pub frame : ℕ → List ℕ → Frame
 frame token body = record { token = token; body = body }
 
+-- requests as frames, where this is the next of the tokens that rise
 abbrev pub framed : ℕ → List Request → List Frame
 framed token [] = []
 framed token (under n body ∷ rs) = frame n body ∷ framed token rs

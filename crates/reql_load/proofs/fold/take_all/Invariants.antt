@@ -1,4 +1,4 @@
-use Rattle.std.proofs.Common.{◌≡◌, ℕ, map, drop}
+use Rattle.std.proofs.Common.{◌≡◌, map, drop}
 use Rattle.reql_datum.specs.View.{plain}
 use Rattle.reql_load.specs.Folded.{folded_by}
 use Rattle.reql_load.proofs.fold.take_all.Given as goal

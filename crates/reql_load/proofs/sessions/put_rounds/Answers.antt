@@ -1,4 +1,4 @@
-use Rattle.std.proofs.Common.{sym, ap, ◌∙◌, take, drop}
+use Rattle.std.proofs.Common.{ap, ◌∙◌, take, drop}
 use Rattle.reql_load.specs.Script.{rounds}
 use Rattle.reql_load.specs.Writing.{with_all}
 use Rattle.reql_load.proofs.Rounds.{rounds_on, some_left}
