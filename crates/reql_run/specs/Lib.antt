@@ -1,3 +1,4 @@
 pub mod Endings
 pub mod Holding
+pub mod Listening
 pub mod Running

@@ -1,11 +1,12 @@
 //! `reqld`: a document database server that speaks RethinkDB's client protocol.
 //!
-//! It serves one session over standard input and output. `reql_run::run` is the whole server; `main` hands it the
-//! process's words and devices.
+//! It serves one session over standard input and output, or those of clients that connect to a port. `run` and `listen`
+//! of `reql_run` are the whole server; `main` hands them the process's words and devices.
 #![tactic(auto)]
 
+use reql_net::TcpNet;
 use reql_outside::{OsClock, OsDice, StdLink};
-use reql_run::run;
+use reql_run::{listen, run};
 use reql_words::{Command, Refusal, Wanted, command_of};
 use std::env;
 use std::io::{self, ErrorKind};
@@ -15,16 +16,26 @@ const USAGE: &str = "\
 reqld: a document database server that speaks RethinkDB's client protocol
 
 usage:
-  reqld stdio [--key KEY] [--table DB.NAME]..   serves one session over standard input and output
-  reqld --help                                  says this
-  reqld --version                               says which version this is
+  reqld stdio [--key KEY] [--table DB.NAME]..
+      serves one session over standard input and output
+  reqld listen --port PORT [--workers N] [--sessions N] [--key KEY] [--table DB.NAME]..
+      serves clients that connect to this port of 127.0.0.1
+  reqld --help      says this
+  reqld --version   says which version this is
 
-options of stdio, in any order; the word after an option is its value:
+options, in any order; the word after an option is its value:
   --key KEY        a client has to greet with this authorization key, of at most 1024 bytes;
                    without it the key is empty
   --table DB.NAME  this table is there from the start, empty and with the key field id, and its
                    database; up to 256 times, each table once. DB and NAME are 1 to 127 characters
                    of A-Z, a-z, 0-9, _ and -. The database test is always there.
+
+options of listen alone:
+  --port PORT      1 to 65535; drivers use 28015 where none is said
+  --workers N      so many clients at once, 1 to 64, and 4 where it isn't said; one more waits until
+                   one of them ends
+  --sessions N     the server ends when it has served so many, 1 to 4294967295, and this many where
+                   it isn't said; each worker serves an equal part of them
 
 A session is a greeting and then requests, each a token of 8 bytes, a length of 4 and a body in
 JSON, numbers little endian. An example to paste, which adds two numbers:
@@ -32,17 +43,23 @@ JSON, numbers little endian. An example to paste, which adds two numbers:
   { printf '\\x20\\x2d\\x0c\\x40\\0\\0\\0\\0\\xc7\\x70\\x69\\x7e'
     printf '\\1\\0\\0\\0\\0\\0\\0\\0\\x0e\\0\\0\\0[1,[24,[1,2]]]'; } | reqld stdio
 
+A server for drivers that greet as those of RethinkDB 2.0 to 2.2 do (V0_4, JSON):
+
+  reqld listen --port 28015 --table test.docs
+
 limits: a request of 67108864 bytes, an answer of 268435456, 256 tables over the life of the
 server, 1024 open feeds of a table, 1024 open cursors and feeds of a session.
 
-status: 0 the input ended between two requests, 2 the words are wrong, 4 reading failed, 5 writing
-failed, 6 the input ended within a greeting or a request, 7 the greeting was refused, 8 out of
-memory, 9 a request was too long.
+status of stdio: 0 the input ended between two requests, 2 the words are wrong, 4 reading failed,
+5 writing failed, 6 the input ended within a greeting or a request, 7 the greeting was refused,
+8 out of memory, 9 a request was too long.
+status of listen: 0 it served as many sessions as it was told, however they ended, 2 the words are
+wrong, 3 the port can't be opened, or no more clients can be taken from it, 8 out of memory.
 ";
 
-const RIGHT: &str = "reqld stdio [--key KEY] [--table DB.NAME].., --help or --version";
-
-const NO_LISTEN: &str = "listen, for clients over TCP, is not served yet";
+const RIGHT: &str = "reqld stdio [--key KEY] [--table DB.NAME].., \
+    reqld listen --port PORT [--workers N] [--sessions N] [--key KEY] [--table DB.NAME].., \
+    --help or --version";
 
 // What is wanted where the words end too early, as a message says it.
 fn wanted(what: Wanted) -> &'static str {
@@ -93,6 +110,33 @@ fn complain(rt: &HostRuntime, refusal: Refusal<'_>) -> ExitCode {
     ExitCode::from(2)
 }
 
+// Says on standard error why no socket can be had.
+fn unopened(rt: &HostRuntime, kind: ErrorKind) -> ExitCode {
+    if kind == ErrorKind::OutOfMemory {
+        let _ = eprintln!(rt; "reqld: out of memory");
+        ExitCode::from(8)
+    } else {
+        let _ = eprintln!(rt;
+            "reqld: the sockets that wake clients can't be opened: are too many files open?"
+        );
+        ExitCode::from(3)
+    }
+}
+
+// Says on standard error why a server that listened ended, where it is not that it served all it was to.
+fn told(rt: &HostRuntime, port: u16, status: u8, is_opened: bool) -> ExitCode {
+    let _ = match (status, is_opened) {
+        (3, false) => eprintln!(rt;
+            "reqld: port {port} of 127.0.0.1 can't be opened: is it in use, or below 1024? \
+             Another one is named by --port"
+        ),
+        (3, true) => eprintln!(rt; "reqld: no more clients can be taken from port {port}"),
+        (8, _) => eprintln!(rt; "reqld: out of memory"),
+        _ => Ok(()),
+    };
+    ExitCode::from(status)
+}
+
 fn main(rt: HostRuntime) -> ExitCode {
     let alloc = rt.alloc();
     let words = match words_of(&rt) {
@@ -103,9 +147,13 @@ fn main(rt: HostRuntime) -> ExitCode {
         Command::Help => printed(print!(rt; "{USAGE}")),
         Command::Version => printed(println!(rt; "reqld 0.1.0")),
         Command::Refused(refusal) => complain(&rt, refusal),
-        Command::Listen { .. } => {
-            let _ = eprintln!(rt; "reqld: {NO_LISTEN}");
-            ExitCode::from(2)
+        Command::Listen { port, .. } => {
+            let mut net = match TcpNet::new(rt) {
+                Ok(net) => net,
+                Err(error) => return unopened(&rt, error.kind()),
+            };
+            let outcome = listen(&rt, alloc, &words, &mut net);
+            told(&rt, port, outcome.status, outcome.ended.is_some())
         }
         Command::Stdio { .. } => {
             let (dice, clock) = (OsDice::new(rt), OsClock::new(rt));

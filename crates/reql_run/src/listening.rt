@@ -1,0 +1,212 @@
+// The whole server, over the net that it is handed.
+ghost use Rattle.std.specs.Prelude.{◌≡◌, map, string_bytes, replicate, IfOk, IfErr, MatchOption};
+ghost use Rattle.reql_catalog.specs.Machine.{opening};
+ghost use Rattle.reql_law.specs.Limits.{usual_limits};
+ghost use Rattle.reql_words.specs.Words.{asks, named, Listen};
+ghost use Rattle.reql_core.specs.Live.{state_of};
+ghost use Rattle.reql_open_feed.specs.Open.{held_in};
+ghost use Rattle.reql_law.specs.Laws.{DocsAtStamp, StampCounts};
+ghost use Rattle.reql_law.specs.Terms.{PointsShowTheirTerms, RangesShowTheirTerms, LimitsShowTheirTerms};
+ghost use Rattle.reql_told.specs.Laws.{AllInOrder, AllFramesHandled, AllWornLate, AllValidClose, AllFeedsHold, BatchesAgree, InfoIsServers, PlansAreTold};
+ghost use Rattle.reql_told.specs.Refusing.{FirstRefusal, ShapeRefusal};
+ghost use Rattle.reql_net.specs.Nets.{Counts};
+ghost use Rattle.reql_serve.specs.Working.{outside};
+ghost use Rattle.reql_serve.specs.Many.{at_end};
+ghost use Rattle.reql_run.specs.Listening.{AreServed, ComesTo, Listens, Unheard, greater, status_of_worker, status_of_workers};
+
+use crate::opening::{engines, names_of};
+use crate::outcome::Core;
+use reql_catalog::Catalogue;
+use reql_law::{Limits, feeds_show_their_terms, table_laws};
+use reql_memory::Memory;
+use reql_net::{Door, Net, NetFault, Post};
+use reql_outside::{Clock, Dice, Link};
+use reql_planner::QueryPlanner;
+use reql_serve::{Left, Many, WorkState, serve_many};
+use reql_told::{QueryPlans, first_refusal, plans_are_told, server_is_told, sessions_hold};
+use reql_words::{Command, command_of};
+use std::alloc::Global;
+use std::sync::Wait;
+use std::thread::Threads;
+
+/// How a server that listened ended.
+#[derive(Drop)]
+pub struct Heard<G: Door> {
+    /// 0: it served as many sessions as it was told, or no client comes any more. 2: the words ask for
+    /// no port. 3: the port can't be opened, or a worker could take no more clients from it. 8: memory
+    /// was wanted, to begin with or by a worker for one more session.
+    pub status: u8,
+    /// The workers as they ended, with their sessions, and the hall with its whole histories. None
+    /// with the status 2, where the port can't be opened, and where memory was wanted to begin with.
+    pub ended: Option<Many<Core, G>>,
+}
+
+fn status_of_worker(state: WorkState) -> u8
+    ensures { result ≡ status_of_worker state }
+{
+    match state {
+        WorkState::Memory => 8,
+        WorkState::Failed => 3,
+        WorkState::Ready | WorkState::Done | WorkState::Over => 0,
+    }
+}
+
+fn greater(a: u8, b: u8) -> u8
+    ensures { result ≡ greater a b }
+{
+    if a < b {
+        return b;
+    }
+    a
+}
+
+// The greatest status of the workers.
+fn status_of_workers<G: Door>(workers: &[Left<G>]) -> u8
+    ensures { result ≡ status_of_workers (map (λ w. w.state) workers.now) }
+{
+    let mut status = 0;
+    for worker in workers {
+        status = greater(status, status_of_worker(worker.state));
+    }
+    status
+}
+
+// Serves the sessions of these posts to who has the key, with these tables from the start.
+fn serve_posts<R, G, D, T>(
+    rt: &R,
+    alloc: Global,
+    key: &str,
+    tables: &[(&str, &str)],
+    posts: Vec<Post<G, D, T>>,
+    sessions: u64,
+) -> Result<Many<Core, G>, Memory>
+where
+    R: Threads + Wait + Sync,
+    G: Door + Drop + Send,
+    G::Link: Send,
+    <G::Link as Link>::Record: Drop + Send,
+    D: Dice + Drop + Send,
+    T: Clock + Drop + Send,
+    ensures { IfOk result (λ many. AreServed (λ c. state_of held_in c.live) (λ n. n) G.Link.kept key.now (map named tables.now)
+        (map (λ p. outside (T.told p.clock) (D.told p.dice) (G.told p.door)) posts.items) sessions
+        (map (λ w. at_end (G.told w.door) w.ended.items w.left w.state) many.workers.items) many.hall) }
+{
+    let limits = Limits::usual();
+    let tables = names_of(alloc, tables)?;
+    let names = Catalogue::new(alloc, &tables, limits.slots)?;
+    let engines = engines(alloc, &limits)?;
+    let key = key.as_bytes().to_vec(alloc)?;
+    let planner = QueryPlanner::<Core>::new(QueryPlans { key, limits });
+    serve_many(rt, alloc, names, engines, &planner, posts, sessions)
+}
+
+// Serves the sessions that come to a port, by so many workers.
+fn serve_port<R, N>(
+    rt: &R,
+    alloc: Global,
+    key: &str,
+    tables: &[(&str, &str)],
+    port: u16,
+    workers: u32,
+    sessions: u64,
+    net: &mut N,
+) -> Result<Many<Core, N::Door>, NetFault>
+where
+    R: Threads + Wait + Sync,
+    N: Net,
+    N::Door: Drop + Send,
+    <N::Door as Door>::Link: Send,
+    <<N::Door as Door>::Link as Link>::Record: Drop + Send,
+    N::Dice: Drop + Send,
+    N::Clock: Drop + Send,
+    ensures came { IfOk result (λ many. ComesTo (λ c. state_of held_in c.live) (λ n. n) N.Door.Link.kept port workers sessions
+        key.now (map named tables.now) (N.told net.old) (N.told net.new)
+        (map (λ w. at_end (N.Door.told w.door) w.ended.items w.left w.state) many.workers.items) many.hall) }
+    ensures failed { IfErr result (Counts (N.told net.old) (N.told net.new) port workers) }
+{
+    let posts = net.doors(alloc, port, workers)?;
+    match serve_posts(rt, alloc, key, tables, posts, sessions) {
+        Ok(many) => Ok(many),
+        Err(Memory) => Err(NetFault::Memory),
+    }
+}
+
+/// Serves clients that connect to a port of the net, with what the words ask for:
+/// `listen --port P [--workers W] [--sessions S] [--key K] [--table DB.NAME]..`, its options in any
+/// order. W clients are served at once, each by a worker of its own, and S in all.
+///
+/// With other words the status is 2, and the net isn't asked. What is proved of every session of these
+/// plans stands beside what these did, as it does beside `run`.
+pub fn listen<R, N>(rt: &R, alloc: Global, words: &[String], net: &mut N) -> Heard<N::Door>
+where
+    R: Threads + Wait + Sync,
+    N: Net,
+    N::Door: Drop + Send,
+    <N::Door as Door>::Link: Send,
+    <<N::Door as Door>::Link as Link>::Record: Drop + Send,
+    N::Dice: Drop + Send,
+    N::Clock: Drop + Send,
+    ensures listens { MatchOption result.ended
+        (Unheard (asks (map string_bytes words.now)) (N.told net.old) (N.told net.new) result.status)
+        (λ many. Listens (λ c. state_of held_in c.live) (λ n. n) N.Door.Link.kept (asks (map string_bytes words.now))
+        (N.told net.old) (N.told net.new) result.status
+        (map (λ w. at_end (N.Door.told w.door) w.ended.items w.left w.state) many.workers.items) many.hall) }
+    ensures in_order { AllInOrder }
+    ensures frames_handled { AllFramesHandled }
+    ensures worn_late { AllWornLate }
+    ensures valid_close { AllValidClose }
+    ensures shape { ShapeRefusal }
+    ensures first { FirstRefusal }
+    ensures plans_are_told { PlansAreTold }
+    ensures batches { BatchesAgree }
+    ensures server { InfoIsServers }
+    ensures feeds_hold { AllFeedsHold }
+    ensures documents { DocsAtStamp }
+    ensures stamps { StampCounts }
+    ensures points { PointsShowTheirTerms }
+    ensures ranges { RangesShowTheirTerms }
+    ensures limits { LimitsShowTheirTerms }
+{
+    first_refusal();
+    plans_are_told();
+    server_is_told();
+    sessions_hold();
+    table_laws();
+    feeds_show_their_terms();
+    let Command::Listen {
+        port,
+        workers,
+        sessions,
+        key,
+        tables,
+    } = command_of(words)
+    else {
+        return Heard {
+            status: 2,
+            ended: None,
+        };
+    };
+    match serve_port(
+        rt,
+        alloc,
+        key,
+        tables.as_slice(),
+        port,
+        workers,
+        sessions,
+        net,
+    ) {
+        Ok(many) => Heard {
+            status: status_of_workers(&many.workers),
+            ended: Some(many),
+        },
+        Err(NetFault::Failed) => Heard {
+            status: 3,
+            ended: None,
+        },
+        Err(NetFault::Memory) => Heard {
+            status: 8,
+            ended: None,
+        },
+    }
+}
