@@ -7,8 +7,6 @@ pub mod Named
 pub mod Parts
 pub mod Choices
 pub mod Reading
-pub mod Outside
-pub mod Constants
 pub mod Limits
 pub mod Orders
 pub mod Sends

@@ -165,8 +165,7 @@ fn part_over(
     }
 }
 
-/// The part that an operator gives by the index of a name.
-pub(crate) fn part_by(
+fn part_by(
     alloc: Global,
     key: &Name,
     name: &Name,
