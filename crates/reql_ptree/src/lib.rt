@@ -7,7 +7,6 @@ mod chunk;
 mod edit;
 mod in_place;
 mod look;
-mod pack;
 mod put;
 mod range;
 mod rank;

@@ -9,7 +9,6 @@ ghost use Rattle.reql_ptree.specs.Pairs.{without};
 ghost use Rattle.reql_ptree.specs.Tall.{tall};
 
 use crate::chunk::{Chunk, Pair};
-use crate::edit::MOST;
 use crate::in_place::{own_chunk, own_side, resized};
 use crate::remove::side_remove;
 use crate::seek::seek_few;
@@ -90,17 +89,14 @@ fn chunk_remove_in<L>(alloc: Global, chunk: &mut Chunk, key: &Datum, steps: &mut
     done
 }
 
-/// A side without a key, where its chunk keeps a pair and no node of the way is to become one chunk;
-/// and whether it was so. Nothing is changed where not.
+/// A side without a key, where its chunk keeps a pair; and whether it was so. Nothing is changed
+/// where not.
 fn side_remove_in<L>(alloc: Global, side: &mut Side, key: &Datum, steps: &mut Steps<L>) -> bool
     ensures pairs { side.new.0 ≡ (if result then without (plain key.now) side.old.0
         else side.old.0) }
     ensures height { side.new.1 ≡ side.old.1 }
     ensures counted { steps.new ≤ steps.old + (2 * side.old.1 + 4) }
 {
-    if side.height == 2 && side.size <= MOST as u64 + 1 {
-        return false;
-    }
     if let Err(_) = own_side(alloc, side) {
         return false;
     }
