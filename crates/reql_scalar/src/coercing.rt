@@ -1,7 +1,7 @@
 // COERCE_TO, but for JSON texts.
-ghost use Rattle.std.specs.Prelude.{◌≡◌, ◌∷◌, [], Ok, IfOk, IfErr, MatchOption, ⊤, map, option_map};
+ghost use Rattle.std.specs.Prelude.{◌≡◌, ◌∷◌, [], IfOk, map, option_map};
 ghost use Rattle.reql_datum.specs.Members.{put};
-ghost use Rattle.reql_datum.specs.Outcome.{Gives, Fails};
+ghost use Rattle.reql_datum.specs.Outcome.{Gives};
 ghost use Rattle.reql_datum.specs.Answer.{query_logic};
 ghost use Rattle.reql_datum.specs.Plain.{Plain, boolean, object, pairs_of, array, items_of, binary, text};
 ghost use Rattle.reql_datum.specs.View.{plain};
@@ -19,9 +19,6 @@ use crate::numbers::query_logic;
 use reql_datum::{Blob, Datum, Fault, Fields, Items, Memory, Name};
 use std::alloc::Global;
 use std::collections::BTreeMap;
-
-// So many pairs are put each in its place whatever their order, which takes fewer steps than a map.
-const FEW: usize = 64;
 
 fn refusal(alloc: Global, kind: &str, to: &str) -> Result<Name, Memory>
     ensures { IfOk result (λ s. cannot_coerce kind.now to.now ≡ query_logic s) }
@@ -159,8 +156,8 @@ fn gather_pair(
     }
 }
 
-// The object of pairs, by a map from names, which takes any order of them.
-fn object_gathered(alloc: Global, kind: &str, items: &Items) -> Result<Fields, Fault>
+// The object of pairs, in n log n steps whatever the order of the names.
+fn object_of(alloc: Global, kind: &str, items: &Items) -> Result<Fields, Fault>
     ensures { Gives (λ ms. ms) result (put_pairs kind.now [] items.now) }
 {
     let mut named = BTreeMap::new(alloc);
@@ -170,54 +167,6 @@ fn object_gathered(alloc: Global, kind: &str, items: &Items) -> Result<Fields, F
         place += 1;
     }
     Ok(built(alloc, named)?)
-}
-
-fn put_pair(alloc: Global, fields: &mut Fields, kind: &str, item: &Datum) -> Result<(), Fault>
-    ensures { Gives (λ _. fields.new) result (put_pair kind.now (plain item.now) fields.old) }
-{
-    match pair_in(item) {
-        Some((name, value)) => put_new(alloc, fields, name, value),
-        None => Err(refused(alloc, kind, "object")),
-    }
-}
-
-// Whether the name of a pair is above the one at a place. What is no pair is left to `put_pair`.
-fn is_above(fields: &Fields, place: usize, item: &Datum) -> bool {
-    let Some((name, _value)) = pair_in(item) else {
-        return true;
-    };
-    match fields.at(place) {
-        Some((last, _value)) => last.order(name.as_str()).is_lt(),
-        None => true,
-    }
-}
-
-// The object of pairs whose names rise but for the first few, each put in its place.
-fn object_rising(alloc: Global, kind: &str, items: &Items) -> Result<Option<Fields>, Fault>
-    ensures found { IfOk result (λ found. MatchOption found ⊤
-        (λ ms. put_pairs kind.now [] items.now ≡ Ok ms)) }
-    ensures fault { IfErr result (λ e. Fails e (put_pairs kind.now [] items.now)) }
-{
-    let mut fields = Fields::with_room(alloc, items.len())?;
-    let mut place = 0;
-    while let Some(item) = items.at(place) {
-        if place >= FEW && !is_above(&fields, place - 1, item) {
-            return Ok(None);
-        }
-        put_pair(alloc, &mut fields, kind, item)?;
-        place += 1;
-    }
-    Ok(Some(fields))
-}
-
-// The object of pairs, in n log n steps.
-fn object_of(alloc: Global, kind: &str, items: &Items) -> Result<Fields, Fault>
-    ensures { Gives (λ ms. ms) result (put_pairs kind.now [] items.now) }
-{
-    match object_rising(alloc, kind, items)? {
-        Some(fields) => Ok(fields),
-        None => object_gathered(alloc, kind, items),
-    }
 }
 
 #[tactic(auto, using(crate::proofs::Two::object_is))]
