@@ -11,7 +11,7 @@ ghost use Rattle.reql_apply_path.specs.Pairs.{are_pairs as are_pairs_of, put_pai
 
 use reql_datum::{Datum, Fault, Fields, Items, Memory};
 use reql_operand::{Arg, as_datum, as_object, as_text, misplaced};
-use reql_scalar::put_new;
+use reql_scalar::ObjectBuilder;
 use std::alloc::Global;
 
 fn keys(alloc: Global, fields: &Fields) -> Result<Items, Memory>
@@ -75,25 +75,26 @@ fn are_pairs(args: &[Arg]) -> bool
     args.len() % 2 == 0
 }
 
-fn put_pair(alloc: Global, fields: &mut Fields, name: &Arg, value: &Arg) -> Result<(), Fault>
-    ensures { (w : Seen) → Gives (λ _. fields.new) result
-        (put_one_of fields.old (shown w name.now) (shown w value.now)) }
+fn put_pair(alloc: Global, object: &mut ObjectBuilder, name: &Arg, value: &Arg) -> Result<(), Fault>
+    ensures { (w : Seen) → Gives (λ _. object.new) result
+        (put_one_of object.old (shown w name.now) (shown w value.now)) }
 {
     let text = as_text(alloc, name)?;
     let d = as_datum(alloc, value)?;
-    put_new(alloc, fields, text, &d)
+    object.put_new(text, &d)
 }
 
 fn put_pairs(alloc: Global, args: &[Arg]) -> Result<Fields, Fault>
     ensures { (w : Seen) → Gives (λ fields. fields) result
         (put_pairs_of [] (all_shown w args.now)) }
 {
-    let mut fields = Fields::with_room(alloc, args.len() / 2)?;
+    let mut object = ObjectBuilder::with_room(alloc, args.len() / 2)?;
     let mut rest = args;
     while let [name, value, more @ ..] = rest {
-        put_pair(alloc, &mut fields, name, value)?;
+        put_pair(alloc, &mut object, name, value)?;
         rest = more;
     }
+    let fields = object.build()?;
     Ok(fields)
 }
 

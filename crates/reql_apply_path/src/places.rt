@@ -42,7 +42,7 @@ fn out_of_bounds(alloc: Global, at: i64) -> Result<Name, Memory>
     }
 }
 
-// The element at a place, for which no other is read of a slice of a table.
+// The element at a place, for which no other is read of a table or a slice of one.
 fn reached<V: TableView>(
     alloc: Global,
     value: &Value,
@@ -128,7 +128,8 @@ fn nth_at<V: TableView>(
     }
 }
 
-/// NTH: the element at a place, where -1 is the last. Of a slice of a table no other is read.
+/// NTH: the element at a place, where -1 is the last. Of a table or a slice of one no other is
+/// read.
 pub fn nth_rule<V: TableView>(alloc: Global, args: &[Arg], world: &World<V>) -> Result<Datum, Fault>
     ensures { let w = seen V.documents V.indexes V.entries world.now in
         (calls : Calls) (opts : Options) → Gives plain result

@@ -1,7 +1,9 @@
 // Elements counted, and single ones taken, without reading the others of a slice.
-ghost use Rattle.std.specs.Prelude.{◌≡◌, Ok, IfOk, length, option_map, slice_get};
+ghost use Rattle.std.specs.Prelude.{◌≡◌, List, ℕ, Ok, Some, IfOk, length, option_map, slice_get};
 ghost use Rattle.reql_datum.specs.Outcome.{Gives};
 ghost use Rattle.reql_datum.specs.View.{plain};
+ghost use Rattle.reql_term.specs.Views.{Document, Entry, Index, entries_in, primary};
+ghost use Rattle.reql_value.specs.Meant.{table as table_of};
 ghost use Rattle.reql_value.specs.Sequences.{count_elements as count_elements_of};
 ghost use Rattle.reql_operand.specs.Counted.{element};
 ghost use Rattle.reql_operand.specs.Seen.{meant, documents_at, documents_of_view};
@@ -11,7 +13,7 @@ use crate::reading::to_sequence;
 use crate::value::Value;
 use crate::world::{Viewed, World, table_at};
 use reql_datum::{Datum, Fault, Items, Memory};
-use reql_term::{Range, TableView, ViewFault};
+use reql_term::{Bound, Range, TableView, ViewFault};
 use std::alloc::Global;
 
 fn count_in_table<V: TableView>(table: &Viewed<V>, range: &Range) -> Result<u64, Fault>
@@ -42,7 +44,38 @@ pub fn count_range<V: TableView>(
     }
 }
 
-/// How many elements a sequence has. A slice of a table isn't read for it.
+// All of the primary order.
+#[tactic(auto, using(crate::proofs::Whole::all_between))]
+fn whole_range() -> Range
+    ensures { (documents : List Document) (indexes : List (List ℕ × Index))
+        (entries : List ℕ → List Entry)
+        → entries_in documents indexes entries result ≡ Some (primary documents) }
+{
+    Range {
+        index: None,
+        low: Bound {
+            value: Datum::Low,
+            is_open: false,
+        },
+        high: Bound {
+            value: Datum::High,
+            is_open: false,
+        },
+        down: false,
+    }
+}
+
+fn count_whole<V: TableView>(alloc: Global, world: &World<V>, slot: u32) -> Result<u64, Fault>
+    ensures { Gives (λ n. n) result
+        (count_elements_of (seen V.documents V.indexes V.entries world.now) (table_of slot)) }
+{
+    let table = table_at(alloc, world, slot)?;
+    let range = whole_range();
+    let count = count_in_table(table, &range)?;
+    Ok(count)
+}
+
+/// How many elements a sequence has. Neither a table nor a slice of one is read for it.
 pub fn count_elements<V: TableView>(
     alloc: Global,
     value: &Value,
@@ -58,6 +91,7 @@ pub fn count_elements<V: TableView>(
             slice: _,
             range,
         } => count_range(alloc, world, *slot, range),
+        Value::Table(slot) => count_whole(alloc, world, *slot),
         _ => {
             let items = to_sequence(alloc, value, world)?;
             Ok(items.len() as u64)
@@ -109,7 +143,22 @@ fn take_in_range<V: TableView>(
     }
 }
 
-/// The element at a place of a sequence. Of a slice of a table no other is read for it.
+fn take_in_whole<V: TableView>(
+    alloc: Global,
+    world: &World<V>,
+    slot: u32,
+    place: usize,
+) -> Result<Option<Datum>, Fault>
+    ensures { Gives (option_map plain) result
+        (element (seen V.documents V.indexes V.entries world.now) place (table_of slot)) }
+{
+    let table = table_at(alloc, world, slot)?;
+    let range = whole_range();
+    let found = take_in_table(alloc, table, &range, place)?;
+    Ok(found)
+}
+
+/// The element at a place of a sequence. Of a table or a slice of one no other is read for it.
 pub fn element_at<V: TableView>(
     alloc: Global,
     value: &Value,
@@ -126,6 +175,7 @@ pub fn element_at<V: TableView>(
             slice: _,
             range,
         } => take_in_range(alloc, world, *slot, range, place),
+        Value::Table(slot) => take_in_whole(alloc, world, *slot, place),
         _ => {
             let items = to_sequence(alloc, value, world)?;
             Ok(copy_at(&items, place)?)

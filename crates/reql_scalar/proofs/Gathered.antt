@@ -34,3 +34,8 @@ built_all done left all is so = sym (append-nil done) ∙ ap (λ t. done ++ gath
 pub none_left : {A : Type 0} (es : List A) → (0 < length es → false ≡ true) → es ≡ []
 none_left [] h = refl
 none_left (e ∷ es) h = absurd (let f : false ≡ true = h (omega arith) in cc)
+
+-- the same from members in place to those of a map
+pub moved_on : (done now left later all : List (Bytes × Plain)) (k : Bytes) (v : Plain)
+    → AreRising all → left ≡ (k, v) ∷ later → now ≡ put k v done → done ++ left ≡ all → now ++ later ≡ all
+moved_on done now left later all k v up is put_is so = ap (λ t. t ++ later) put_is ∙ put_step done later all k v up (ap (λ t. done ++ t) (sym is) ∙ so)

@@ -5,3 +5,4 @@ pub mod Adding
 pub mod Among
 pub mod Digits
 pub mod Two
+pub mod Building

@@ -1,5 +1,5 @@
 // COERCE_TO, but for JSON texts.
-ghost use Rattle.std.specs.Prelude.{◌≡◌, ◌∷◌, [], IfOk, map, option_map};
+ghost use Rattle.std.specs.Prelude.{◌≡◌, ◌∷◌, [], Ok, IfOk, map, option_map};
 ghost use Rattle.reql_datum.specs.Members.{put};
 ghost use Rattle.reql_datum.specs.Outcome.{Gives};
 ghost use Rattle.reql_datum.specs.Answer.{query_logic};
@@ -10,15 +10,14 @@ ghost use Rattle.reql_rules.specs.Faults.{cannot_coerce, bad_name_in_object};
 ghost use Rattle.reql_rules.specs.Objects.{as_pair, put_new};
 ghost use Rattle.reql_rules.specs.Types.{same_text, truth};
 ghost use Rattle.reql_scalar.specs.Digits.{number_of};
-ghost use Rattle.reql_scalar.specs.Two.{named, two_in, put_pair, put_pairs, gathered};
+ghost use Rattle.reql_scalar.specs.Two.{named, two_in, put_pair, put_pairs};
 ghost use Rattle.reql_scalar.specs.Told.{Tells};
 
+use crate::building::ObjectBuilder;
 use crate::digits::number_of;
-use crate::gathering::{built, gather};
 use crate::numbers::query_logic;
 use reql_datum::{Blob, Datum, Fault, Fields, Items, Memory, Name};
 use std::alloc::Global;
-use std::collections::BTreeMap;
 
 fn refusal(alloc: Global, kind: &str, to: &str) -> Result<Name, Memory>
     ensures { IfOk result (λ s. cannot_coerce kind.now to.now ≡ query_logic s) }
@@ -141,32 +140,31 @@ pub(crate) fn is_same(this: &str, other: &str) -> bool
     this.cmp(other).is_eq()
 }
 
-fn gather_pair(
+fn put_pair(
     alloc: Global,
-    named: &mut BTreeMap<Name, Datum>,
+    object: &mut ObjectBuilder,
     kind: &str,
     item: &Datum,
 ) -> Result<(), Fault>
-    ensures { Gives (λ _. gathered named.new.entries) result
-        (put_pair kind.now (plain item.now) (gathered named.old.entries)) }
+    ensures { Gives (λ _. object.new) result (put_pair kind.now (plain item.now) object.old) }
 {
     match pair_in(item) {
-        Some((name, value)) => gather(alloc, named, name, value),
+        Some((name, value)) => object.put_new(name, value),
         None => Err(refused(alloc, kind, "object")),
     }
 }
 
-// The object of pairs, in n log n steps whatever the order of the names.
+// The object of pairs.
 fn object_of(alloc: Global, kind: &str, items: &Items) -> Result<Fields, Fault>
     ensures { Gives (λ ms. ms) result (put_pairs kind.now [] items.now) }
 {
-    let mut named = BTreeMap::new(alloc);
+    let mut object = ObjectBuilder::with_room(alloc, items.len())?;
     let mut place = 0;
     while let Some(item) = items.at(place) {
-        gather_pair(alloc, &mut named, kind, item)?;
+        put_pair(alloc, &mut object, kind, item)?;
         place += 1;
     }
-    Ok(built(alloc, named)?)
+    Ok(object.build()?)
 }
 
 #[tactic(auto, using(crate::proofs::Two::object_is))]

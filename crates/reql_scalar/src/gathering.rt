@@ -1,4 +1,4 @@
-// Members gathered in no order, and the object of them.
+// Members gathered in no order by a map, and the object of them.
 ghost use Rattle.std.specs.Prelude.{◌≡◌, IfOk, is_some};
 ghost use Rattle.reql_datum.specs.Members.{find, put};
 ghost use Rattle.reql_datum.specs.Outcome.{Gives};
@@ -23,7 +23,12 @@ fn is_bad_name(named: &BTreeMap<Name, Datum>, name: &Name) -> bool
     is_same(name.as_str(), "$reql_type$") || is_there(named, name)
 }
 
-fn insert(named: &mut BTreeMap<Name, Datum>, name: Name, value: Datum) -> Result<(), Memory>
+/// Puts a value at a name.
+pub(crate) fn insert(
+    named: &mut BTreeMap<Name, Datum>,
+    name: Name,
+    value: Datum,
+) -> Result<(), Memory>
     ensures { IfOk result (λ _. gathered named.new.entries
         ≡ put name (plain value) (gathered named.old.entries)) }
 {

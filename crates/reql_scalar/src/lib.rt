@@ -2,6 +2,7 @@
 #![tactic(auto)]
 
 mod adding;
+mod building;
 mod coercing;
 mod digits;
 mod editing;
@@ -13,6 +14,7 @@ mod sets;
 mod wanted;
 
 pub use adding::arith;
+pub use building::ObjectBuilder;
 pub use coercing::{coerce, coerce_named, put_new};
 pub use editing::edit;
 pub use relating::relate;

@@ -5,7 +5,7 @@ use Rattle.reql_apply_path.specs.Pairs.{put_pairs}
 use Rattle.reql_apply_path.proofs.members.put_pairs.Given as goal
 
 abbrev pub invariant-loop-rest : goal.invariant-loop-rest
-invariant-loop-rest l = (w : World) → put_pairs [] (all_shown w l.args) ≡ put_pairs l.fields (all_shown w l.rest)
+invariant-loop-rest l = (w : World) → put_pairs [] (all_shown w l.args) ≡ put_pairs l.object (all_shown w l.rest)
 
 abbrev pub decreases-loop-rest : goal.decreases-loop-rest
 decreases-loop-rest l = length l.rest
