@@ -7,6 +7,7 @@ mod chunk;
 mod edit;
 mod in_place;
 mod look;
+mod pack;
 mod put;
 mod range;
 mod rank;

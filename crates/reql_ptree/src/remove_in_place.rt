@@ -9,6 +9,7 @@ ghost use Rattle.reql_ptree.specs.Pairs.{without};
 ghost use Rattle.reql_ptree.specs.Tall.{tall};
 
 use crate::chunk::{Chunk, Pair};
+use crate::edit::MOST;
 use crate::in_place::{own_chunk, own_side, resized};
 use crate::remove::side_remove;
 use crate::seek::seek_few;
@@ -89,14 +90,22 @@ fn chunk_remove_in<L>(alloc: Global, chunk: &mut Chunk, key: &Datum, steps: &mut
     done
 }
 
-/// A side without a key, where its chunk keeps a pair; and whether it was so. Nothing is changed
-/// where not.
+// Whether a node above others may become one chunk where it loses a pair.
+fn is_to_join(side: &Side) -> bool {
+    side.height() == 2 && side.len() <= MOST as u64 + 1
+}
+
+/// A side without a key, where its chunk keeps a pair and no node of the way may become one chunk;
+/// and whether it was so. Nothing is changed where not.
 fn side_remove_in<L>(alloc: Global, side: &mut Side, key: &Datum, steps: &mut Steps<L>) -> bool
     ensures pairs { side.new.0 ≡ (if result then without (plain key.now) side.old.0
         else side.old.0) }
     ensures height { side.new.1 ≡ side.old.1 }
     ensures counted { steps.new ≤ steps.old + (2 * side.old.1 + 4) }
 {
+    if is_to_join(side) {
+        return false;
+    }
     if let Err(_) = own_side(alloc, side) {
         return false;
     }
