@@ -5,7 +5,7 @@ use Rattle.reql_term.specs.Form.{Form, Forms, NamedForms}
 use Rattle.reql_faults.specs.Places.{first, second}
 use Rattle.reql_feed_law.specs.declared.kind.FeedKind.TheVariants as kinds
 use Rattle.reql_plan_law.specs.declared.parts.Opening.{Opening}
-use Rattle.reql_plan_law.specs.Feeding.{Told, all_settled, feed_settled, name_of_order, count_in, opening}
+use Rattle.reql_plan_law.specs.Feeding.{Told, all_settled, feed_settled, limit_index, count_in, opening}
 use Rattle.reql_plan_law.specs.Held.{Held}
 use Rattle.reql_plan_law.specs.Settled.{there, options_given}
 
@@ -19,7 +19,7 @@ alone e f = feed_settled e f >>= λ g. Ok (g ∷ [])
 abbrev pub limit_over : Held → Told → Form → Forms → Answer Opening
 limit_over e t f fs = do
   order ← there (first fs)
-  name ← name_of_order order
+  name ← limit_index e order
   c ← there (second fs)
   count ← count_in c
   Ok (opening e t f (Some name) (kinds.Limit count))

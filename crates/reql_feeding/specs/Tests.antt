@@ -2,18 +2,14 @@
 use Rattle.std.specs.Prelude.{ℕ, ℤ, pos, List, Option, Some, Bool, ◌&&◌, if◌then◌else◌, nat_le, Ok, Err, codes}
 use Rattle.reql_datum.specs.Answer.{Answer, ◌>>=◌}
 use Rattle.reql_datum.specs.Keys.{is_key}
-use Rattle.reql_datum.specs.Members.{find}
 use Rattle.reql_term.specs.Form.{Form, NamedForms}
 use Rattle.reql_rules.specs.Faults.{bad_option}
 use Rattle.reql_rules.specs.Lists.{Bytes}
 use Rattle.reql_value.specs.Tables.{key_if, may_bound}
 use Rattle.reql_value.specs.Wanted.{index_text, left_is_open, right_is_open}
 use Rattle.reql_faults.specs.Places.{option}
-use Rattle.reql_value.specs.World.{World}
-use Rattle.reql_write_law.specs.Selecting.{slots}
-use Rattle.reql_law.specs.Followed.{first_slot}
 use Rattle.reql_plan_law.specs.Settled.{there}
-use Rattle.reql_plan_law.specs.Feeding.{datum_at, givens, order_name, index_or, agrees, between_name, count_in, single}
+use Rattle.reql_plan_law.specs.Feeding.{datum_at, givens, order_name, index_or, count_in}
 
 abbrev pub key_at : Form → Answer (Unit {0})
 key_at f = datum_at f >>= key_if is_key >>= λ _. Ok tt
@@ -33,14 +29,8 @@ bounds_test l h ms = do
 abbrev pub name_among : NamedForms → Answer Bytes
 name_among ms = there (option (codes "index") ms) >>= λ g. index_or (order_name g)
 
-abbrev pub order_over : (ℕ → Bytes) → Form → List (Bytes × Form) → Answer (Unit {0})
-order_over field f ms = do
-  i ← there (find (codes "index") ms)
-  name ← index_or (order_name i)
-  agrees name (between_name (field (first_slot (slots f))) f)
-
-abbrev pub limit_over : World → Form → Form → Answer (Unit {0})
-limit_over w f c = count_in c >>= λ _. single w f
+abbrev pub count_tested : Form → Answer (Unit {0})
+count_tested f = count_in f >>= λ _. Ok tt
 
 -- the size of a queue, by the number that is given
 abbrev pub size_in : Option ℤ → Answer ℕ

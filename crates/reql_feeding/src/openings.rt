@@ -11,7 +11,7 @@ ghost use Rattle.reql_feeding.specs.Followed.{limit_over as limit_over_of};
 
 use crate::counts::count_in;
 use crate::index::shape_index;
-use crate::orders::name_of_order;
+use crate::orders::limit_index;
 use reql_datum::{Fault, Memory, Name};
 use reql_faults::Shape;
 use reql_feed_law::FeedKind;
@@ -96,11 +96,11 @@ fn limit_over<V: TableView>(
         request.now) (told options) (form_of term.now) (forms_of args.now)) }
 {
     let order = first(alloc, args)?;
-    let name = name_of_order(alloc, order)?;
+    let name = limit_index(alloc, request, order)?;
     let count = second(alloc, args)?;
     let most = count_in(alloc, count)?;
-    let index = Some(name.copy()?);
-    Ok(opening(alloc, request, options, term, index, FeedKind::Limit(most))?)
+    let kind = FeedKind::Limit(most);
+    Ok(opening(alloc, request, options, term, Some(name), kind)?)
 }
 
 fn limit_opening<V: TableView>(

@@ -1,22 +1,26 @@
-// The names that orders go by.
-ghost use Rattle.std.specs.Prelude.{◌≡◌, option_map, option_and_then, map};
+// The indexes that limit feeds go by.
+ghost use Rattle.std.specs.Prelude.{◌≡◌, option_map, option_and_then};
 ghost use Rattle.std.specs.Option.{unwrap_or};
 ghost use Rattle.reql_datum.specs.Outcome.{Gives};
 ghost use Rattle.reql_term.specs.Form.{forms_of, named_of};
 ghost use Rattle.reql_term.specs.View.{form_of};
-ghost use Rattle.reql_faults.specs.Places.{first};
-ghost use Rattle.reql_plan_law.specs.Held.{key_of};
-ghost use Rattle.reql_plan_law.specs.Feeding.{name_in as name_in_of, is_direction as is_direction_of, name_under as name_under_of, order_name as order_name_of, index_or as index_or_of, name_of_order as name_of_order_of, is_between as is_between_of, between_name as between_name_of, agrees as agrees_of, order_test as order_test_of};
-ghost use Rattle.reql_feeding.specs.Tests.{name_among as name_among_of, order_over as order_over_of};
+ghost use Rattle.reql_term.specs.Views.{index_of};
+ghost use Rattle.reql_operand.specs.Tables.{seen};
+ghost use Rattle.reql_faults.specs.Places.{first as first_of};
+ghost use Rattle.reql_plan_law.specs.Reads.{args_of};
+ghost use Rattle.reql_plan_law.specs.Settled.{there as there_of};
+ghost use Rattle.reql_plan_law.specs.Feeding.{name_in as name_in_of, is_direction as is_direction_of, name_under as name_under_of, order_name as order_name_of, index_or as index_or_of, name_of_order as name_of_order_of, is_between as is_between_of, between_name as between_name_of, agrees as agrees_of, is_multi as is_multi_of, single as single_of, limit_index as limit_index_of};
+ghost use Rattle.reql_held.specs.Seen.{held};
+ghost use Rattle.reql_feeding.specs.Tests.{name_among as name_among_of};
 
 use crate::literals::name_in;
-use reql_catalog::Names;
+use crate::texts::multi_feed;
 use reql_datum::{Fault, Name};
-use reql_held::{first_at, option_at, there};
-use reql_operand::{bad_option, misplaced, misplaced_order, same_text};
+use reql_held::{Held, first, first_at, option_at, there};
+use reql_operand::{World, bad_option, misplaced, misplaced_order, same_text, table_at};
 use reql_reads::first_slot;
 use reql_telling::key_field;
-use reql_term::{Op, Term, TermFields, Terms, Way};
+use reql_term::{IndexDef, Op, TableView, Term, TermFields, Terms, Way};
 use std::alloc::Global;
 
 fn is_direction(way: Way) -> bool
@@ -31,7 +35,8 @@ fn is_direction(way: Way) -> bool
 
 // The name under ASC or DESC.
 fn name_under(is_directed: bool, args: &Terms) -> Option<&Name>
-    ensures { option_map (λ n. n.now) result ≡ name_under_of is_directed (first (forms_of args.now)) }
+    ensures { option_map (λ n. n.now) result
+        ≡ name_under_of is_directed (first_of (forms_of args.now)) }
 {
     if !is_directed {
         return None;
@@ -42,7 +47,7 @@ fn name_under(is_directed: bool, args: &Terms) -> Option<&Name>
     }
 }
 
-/// The name that an order goes by, which may stand under ASC or DESC.
+// The name that an order goes by, which may stand under ASC or DESC.
 fn order_name(term: &Term) -> Option<&Name>
     ensures { option_map (λ n. n.now) result ≡ order_name_of (form_of term.now) }
 {
@@ -69,8 +74,8 @@ fn name_among<'a>(alloc: Global, fields: &'a TermFields) -> Result<&'a Name, Fau
     index_or(alloc, order_name(index))
 }
 
-/// The name of the index that a term of ORDER_BY goes by.
-pub(crate) fn name_of_order(alloc: Global, term: &Term) -> Result<&Name, Fault>
+// The name of the index that a term of ORDER_BY goes by.
+fn name_of_order(alloc: Global, term: &Term) -> Result<&Name, Fault>
     ensures { Gives (λ n. n.now) result (name_of_order_of (form_of term.now)) }
 {
     match term {
@@ -140,31 +145,61 @@ fn agrees(alloc: Global, name: &str, other: Option<&str>) -> Result<(), Fault>
     }
 }
 
-// The test of ORDER_BY over a term.
-fn order_over(alloc: Global, names: &Names, term: &Term, fields: &TermFields) -> Result<(), Fault>
-    ensures { Gives (λ u. u) result
-        (order_over_of (key_of names.now) (form_of term.now) fields.now) }
+fn is_multi(index: Option<&IndexDef>) -> bool
+    ensures { result ≡ is_multi_of (option_map (λ d. index_of d.now) index.entry) }
 {
-    let index = there(alloc, fields.get("index"))?;
-    let name = index_or(alloc, order_name(index))?;
-    let slot = first_slot(alloc, term)?;
-    let key = key_field(alloc, names, slot)?;
-    agrees(alloc, name.as_str(), between_name(key.as_str(), term))
+    match index {
+        Some(index) => index.multi,
+        None => false,
+    }
 }
 
-/// The test of ORDER_BY.
-pub(crate) fn order_test(
+// That a name is of no multi index of a table.
+fn single<V: TableView>(
     alloc: Global,
-    names: &Names,
-    terms: &[Term],
-    fields: &TermFields,
+    world: &World<V>,
+    slot: u32,
+    name: &Name,
 ) -> Result<(), Fault>
-    ensures { Gives (λ u. u) result
-        (order_test_of (key_of names.now) (map form_of terms.now) fields.now) }
+    ensures { Gives (λ u. u) result (single_of (seen V.documents V.indexes V.entries world.now)
+        slot name.now) }
 {
-    match terms {
-        [] => Err(Fault::QueryLogic(misplaced(alloc)?)),
-        [term] => order_over(alloc, names, term, fields),
-        [_, _, ..] => Err(Fault::QueryLogic(misplaced(alloc)?)),
+    let table = table_at(alloc, world, slot)?;
+    if is_multi(table.view.index(name)) {
+        return Err(Fault::QueryLogic(multi_feed(alloc)?));
     }
+    Ok(())
+}
+
+// What an order is over.
+fn source(alloc: Global, order: &Term) -> Result<&Term, Fault>
+    ensures { Gives (λ t. form_of t.now) result
+        (there_of (first_of (args_of (form_of order.now)))) }
+{
+    match order {
+        Term::Op {
+            op: _,
+            args,
+            opts: _,
+        } => first(alloc, args),
+        _ => Err(Fault::QueryLogic(misplaced(alloc)?)),
+    }
+}
+
+/// The index that a limit feed over an order goes by.
+pub(crate) fn limit_index<V: TableView>(
+    alloc: Global,
+    request: &Held<V>,
+    order: &Term,
+) -> Result<Name, Fault>
+    ensures { Gives (λ n. n) result (limit_index_of (held V.documents V.indexes V.entries
+        request.now) (form_of order.now)) }
+{
+    let name = name_of_order(alloc, order)?;
+    let term = source(alloc, order)?;
+    let slot = first_slot(alloc, term)?;
+    let key = key_field(alloc, &request.names, slot)?;
+    agrees(alloc, name.as_str(), between_name(key.as_str(), term))?;
+    single(alloc, &request.world, slot, name)?;
+    Ok(name.copy()?)
 }

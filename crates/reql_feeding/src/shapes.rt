@@ -18,11 +18,7 @@ fn feed_settled<V: TableView>(alloc: Global, request: &Held<V>, term: &Term) -> 
     ensures { Gives form_of result (feed_settled_of (held V.documents V.indexes V.entries
         request.now) (form_of term.now)) }
 {
-    let test = RowTest {
-        world: &request.world,
-        names: &request.names,
-    };
-    settled(alloc, &test, &request.world, term)
+    settled(alloc, &RowTest, &request.world, term)
 }
 
 // The arms of a united feed, in order.

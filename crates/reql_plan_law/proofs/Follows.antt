@@ -20,7 +20,7 @@ use Rattle.reql_law.specs.declared.command.FeedSpec.{FeedSpec}
 use Rattle.reql_plan_law.specs.declared.parts.Opening.{Opening}
 use Rattle.reql_plan_law.specs.Feeding.{Told, opening, datum_at, row_test}
 use Rattle.reql_plan_law.specs.Follows.{IsRead, RangesAreRead, PointsAreRead}
-use Rattle.reql_plan_law.specs.Held.{Held, key_of}
+use Rattle.reql_plan_law.specs.Held.{Held}
 use Rattle.reql_plan_law.specs.Settled.{argument, keeps_argument}
 
 text_itself : (s : Bytes) → same_text s s ≡ true
@@ -74,7 +74,7 @@ form_read e t n (slot m) f h = absurd (fails _ f h)
 form_read e t n (operation o fs ms) f h = absurd (fails _ f h)
 
 point_read : (e : Held) (t : Told) (n : ℕ) (r : Answer Form) (f : Form)
-    → (((r >>= λ g. Ok (g ∷ [])) >>= λ gs. Ok (slot n ∷ gs)) >>= λ gs. row_test e.world (key_of e.names) op.Get gs [] >>= λ _. Ok (operation op.Get (forms_of gs) no_named)) ≡ Ok f → IsRead (opening e t f None kinds.Point).spec
+    → (((r >>= λ g. Ok (g ∷ [])) >>= λ gs. Ok (slot n ∷ gs)) >>= λ gs. row_test op.Get gs [] >>= λ _. Ok (operation op.Get (forms_of gs) no_named)) ≡ Ok f → IsRead (opening e t f None kinds.Point).spec
 point_read e t n (Err why) f h = absurd (fails why f h)
 point_read e t n (Ok g) f h = form_read e t n g f h
 

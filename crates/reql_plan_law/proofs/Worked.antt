@@ -17,4 +17,4 @@ commands = (refl, refl, refl, refl, refl, refl, refl, refl, refl, refl, refl, re
 
 pub feeds : Feeds
 unfolding op_rule
-feeds = (refl, refl, refl, refl, refl, refl, refl, refl, refl, refl, refl, refl, refl, refl)
+feeds = (refl, refl, refl, refl, refl, refl, refl, refl, refl, refl, refl, refl, refl, refl, refl, refl, refl, refl)

@@ -31,7 +31,7 @@ use Rattle.reql_law.specs.Followed.{first_slot, shape_index}
 use Rattle.reql_plan_law.specs.declared.parts.Opening.{Opening}
 use Rattle.reql_plan_law.specs.Held.{Held, key_of}
 use Rattle.reql_plan_law.specs.Reads.{args_of, options_of}
-use Rattle.reql_plan_law.specs.Settled.{there, settled, options_given, truth_option}
+use Rattle.reql_plan_law.specs.Settled.{Test, there, settled, options_given, truth_option}
 use Rattle.reql_plan_law.specs.Texts.{over_limit, multi_feed}
 
 -- ---- the tests of a term whose arguments have their data, in the order of its row
@@ -70,6 +70,57 @@ between_test (t ∷ l ∷ h ∷ []) ms = do
   Ok tt
 between_test fs ms = Err misplaced
 
+abbrev pub natural : ℤ → Answer ℕ
+natural (pos n) = if nat_le n 100000 then Ok n else Err over_limit
+natural (negsuc n) = Err negative_count
+
+abbrev pub count_in : Form → Answer ℕ
+count_in f = as_number (given_in f) >>= natural
+
+abbrev pub limit_test : List Form → Answer (Unit {0})
+limit_test (f ∷ c ∷ []) = count_in c >>= λ _. Ok tt
+limit_test fs = Err misplaced
+
+abbrev pub row_test : Test
+row_test op.Get fs ms = get_test fs
+row_test op.GetAll fs ms = keys_test fs ms
+row_test op.Between fs ms = between_test fs ms
+row_test op.Limit fs ms = limit_test fs
+row_test o fs ms = Ok tt
+
+-- ---- the options, in the order of the row; those of `squash` and `include_offsets` are literals
+pub record Told : Type 0 where
+  pub size : ℕ
+  pub initial : Bool
+  pub states : Bool
+  pub types : Bool
+  pub offsets : Bool
+  pub squash : Bool
+
+abbrev pub literal_truth : Bytes → Option Form → Answer Bool
+literal_truth name None = Ok false
+literal_truth name (Some (literal (boolean b))) = Ok b
+literal_truth name (Some f) = Err (bad_option name)
+
+abbrev pub size_by : Option Plain → Answer ℕ
+size_by (Some (number (pos n))) = if nat_le 1 n && nat_le n 1000000 then Ok n else Err (bad_option (codes "changefeed_queue_size"))
+size_by d = Err (bad_option (codes "changefeed_queue_size"))
+
+abbrev pub size_given : Option Given → Answer ℕ
+size_given None = Ok 100000
+size_given (Some g) = size_by (seen g)
+
+abbrev pub told : NamedForms → Options → Answer Told
+told ms os = do
+  squash ← literal_truth (codes "squash") (option (codes "squash") ms)
+  size ← size_given (find (codes "changefeed_queue_size") os)
+  initial ← truth_option (codes "include_initial") os
+  states ← truth_option (codes "include_states") os
+  offsets ← literal_truth (codes "include_offsets") (option (codes "include_offsets") ms)
+  types ← truth_option (codes "include_types") os
+  Ok (record { size = size; initial = initial; states = states; types = types; offsets = offsets; squash = squash })
+
+-- ---- the index of a limit feed
 -- the name that an order goes by, which may stand under ASC or DESC
 abbrev pub name_in : Form → Option Bytes
 name_in (literal d) = text_in d
@@ -108,74 +159,22 @@ abbrev pub agrees : Bytes → Option Bytes → Answer (Unit {0})
 agrees name None = Ok tt
 agrees name (Some other) = if same_text name other then Ok tt else Err misplaced_order
 
-abbrev pub order_test : (ℕ → Bytes) → List Form → List (Bytes × Form) → Answer (Unit {0})
-order_test field (f ∷ []) ms = do
-  i ← there (find (codes "index") ms)
-  name ← index_or (order_name i)
-  agrees name (between_name (field (first_slot (slots f))) f)
-order_test field fs ms = Err misplaced
-
-abbrev pub natural : ℤ → Answer ℕ
-natural (pos n) = if nat_le n 100000 then Ok n else Err over_limit
-natural (negsuc n) = Err negative_count
-
-abbrev pub count_in : Form → Answer ℕ
-count_in f = as_number (given_in f) >>= natural
-
 -- no limit feed goes over a multi index; where its index isn't there, Subscribe tells
 abbrev pub is_multi : Option Index → Bool
 is_multi None = false
 is_multi (Some i) = i.1
 
-abbrev pub single : World → Form → Answer (Unit {0})
-single w f = do
-  v ← view_at w (first_slot (slots f))
-  name ← name_of_order f
-  if is_multi (find name v.indexes) then Err multi_feed else Ok tt
+abbrev pub single : World → ℕ → Bytes → Answer (Unit {0})
+single w n name = view_at w n >>= λ v. if is_multi (find name v.indexes) then Err multi_feed else Ok tt
 
-abbrev pub limit_test : World → List Form → Answer (Unit {0})
-limit_test w (f ∷ c ∷ []) = count_in c >>= λ _. single w f
-limit_test w fs = Err misplaced
-
-abbrev pub row_test : World → (ℕ → Bytes) → Op → List Form → List (Bytes × Form) → Answer (Unit {0})
-row_test w field op.Get fs ms = get_test fs
-row_test w field op.GetAll fs ms = keys_test fs ms
-row_test w field op.Between fs ms = between_test fs ms
-row_test w field op.OrderBy fs ms = order_test field fs ms
-row_test w field op.Limit fs ms = limit_test w fs
-row_test w field o fs ms = Ok tt
-
--- ---- the options, in the order of the row; those of `squash` and `include_offsets` are literals
-pub record Told : Type 0 where
-  pub size : ℕ
-  pub initial : Bool
-  pub states : Bool
-  pub types : Bool
-  pub offsets : Bool
-  pub squash : Bool
-
-abbrev pub literal_truth : Bytes → Option Form → Answer Bool
-literal_truth name None = Ok false
-literal_truth name (Some (literal (boolean b))) = Ok b
-literal_truth name (Some f) = Err (bad_option name)
-
-abbrev pub size_by : Option Plain → Answer ℕ
-size_by (Some (number (pos n))) = if nat_le 1 n && nat_le n 1000000 then Ok n else Err (bad_option (codes "changefeed_queue_size"))
-size_by d = Err (bad_option (codes "changefeed_queue_size"))
-
-abbrev pub size_given : Option Given → Answer ℕ
-size_given None = Ok 100000
-size_given (Some g) = size_by (seen g)
-
-abbrev pub told : NamedForms → Options → Answer Told
-told ms os = do
-  squash ← literal_truth (codes "squash") (option (codes "squash") ms)
-  size ← size_given (find (codes "changefeed_queue_size") os)
-  initial ← truth_option (codes "include_initial") os
-  states ← truth_option (codes "include_states") os
-  offsets ← literal_truth (codes "include_offsets") (option (codes "include_offsets") ms)
-  types ← truth_option (codes "include_types") os
-  Ok (record { size = size; initial = initial; states = states; types = types; offsets = offsets; squash = squash })
+-- the index that an order goes by, tested as that of a limit feed
+abbrev pub limit_index : Held → Form → Answer Bytes
+limit_index e order = do
+  name ← name_of_order order
+  f ← there (first (args_of order))
+  _ ← agrees name (between_name (key_of e.names (first_slot (slots f))) f)
+  _ ← single e.world (first_slot (slots f)) name
+  Ok name
 
 -- ---- the feeds, one for each arm
 pub record Feeding : Type 0 where
@@ -199,7 +198,7 @@ range_openings e t (f ∷ fs) = range_opening e t f >>= λ o. range_openings e t
 abbrev pub limit_opening : Held → Told → Form → Answer Opening
 limit_opening e t f = do
   order ← there (first (args_of f))
-  name ← name_of_order order
+  name ← limit_index e order
   c ← there (second (args_of f))
   count ← count_in c
   Ok (opening e t f (Some name) (kinds.Limit count))
@@ -217,7 +216,7 @@ note_of shapes.Limit = 3
 note_of shapes.United = 4
 
 abbrev pub feed_settled : Held → Form → Answer Form
-feed_settled e f = settled (row_test e.world (key_of e.names)) e.world f
+feed_settled e f = settled row_test e.world f
 
 abbrev pub all_settled : Held → Forms → Answer (List Form)
 all_settled e no_forms = Ok []

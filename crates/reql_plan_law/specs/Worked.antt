@@ -90,6 +90,9 @@ at k place stamp = record { slot = k; place = place; stamp = stamp }
 abbrev sees : ℕ → ℕ → List Document → Heard
 sees place stamp ds = looked (record { place = place; stamp = stamp; view = Some (ds, []) })
 
+abbrev sees_multi : String → Heard
+sees_multi s = looked (record { place = 0; stamp = 0; view = Some ([], (codes s, (variable 0, true)) ∷ []) })
+
 abbrev shut : Heard
 shut = looked (record { place = 3; stamp = 0; view = None })
 
@@ -255,8 +258,17 @@ state s = object_of ((codes "state", text (codes s)) ∷ [])
 abbrev united : Form
 united = call op.Union (docs ∷ birds ∷ [])
 
+abbrev first_of : Form → Form → Form
+first_of f c = call op.Limit (with op.OrderBy (f ∷ []) ((codes "index", name "n") ∷ []) ∷ c ∷ [])
+
 abbrev first_ones : Form → Form
-first_ones c = call op.Limit (with op.OrderBy (docs ∷ []) ((codes "index", name "n") ∷ []) ∷ c ∷ [])
+first_ones c = first_of docs c
+
+abbrev low_keys : Form
+low_keys = call op.Between (docs ∷ num 1 ∷ num 2 ∷ [])
+
+abbrev no_value : Form
+no_value = call op.Desc (literal (boolean true) ∷ [])
 
 abbrev pub Feeds : Type 0
 Feeds =
@@ -275,5 +287,9 @@ Feeds =
     × (goes (changes united []) (opened 1 [] ∷ says (said.FeedsFull 4) ∷ says said.Closed ∷ []) ≡ fails (resource_limit (codes "Too many feeds.")))
     × (goes (changes (first_ones (num 2)) []) [] ≡ moves (look 0))
     × (goes (changes (first_ones (num 100001)) []) (sees 0 0 [] ∷ []) ≡ fails (resource_limit (codes "Limit over `100000`.")))
+    × (goes (changes (first_ones (num 2)) []) (sees_multi "n" ∷ []) ≡ fails (query_logic (codes "Limit feed over a multi index.")))
+    × (goes (changes (first_ones (num 2)) ((codes "include_initial", no_value) ∷ [])) (sees_multi "n" ∷ []) ≡ fails (query_logic (codes "Misplaced ordering or index.")))
+    × (goes (changes (first_of low_keys (num 2)) []) (sees 0 0 [] ∷ []) ≡ fails (query_logic (codes "Misplaced ordering or index.")))
+    × (goes (changes (first_of low_keys (num 2)) ((codes "include_types", num 1) ∷ [])) (sees 0 0 [] ∷ []) ≡ fails (query_logic (codes "Bad value for optional argument `include_types`.")))
     × (goes (changes (first_ones (num 2)) []) (sees 0 0 [] ∷ []) ≡
     runs 0 (at 0 0 0 ∷ []) (cmds.Subscribe (record { key = codes "id"; shape = call op.Limit (with op.OrderBy (slot 0 ∷ []) ((codes "index", name "n") ∷ []) ∷ num 2 ∷ []); index = Some (codes "n"); kind = kinds.Limit 2; size = 100000; offsets = false; types = false; squash = false })))
