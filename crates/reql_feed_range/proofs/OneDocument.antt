@@ -1,5 +1,5 @@
 -- A table of one document, as the term of a shape reads it.
-use Rattle.std.proofs.Common.{◌≡◌, ℕ, List, [], ◌∷◌, Result, length, refl, ap, ◌∙◌, subst, arith}
+use Rattle.std.proofs.Common.{◌≡◌, ℕ, List, [], ◌∷◌, Result, length, Bool, true, false, cond, refl, sym, ap, ◌∙◌, subst, arith}
 use Rattle.reql_datum.specs.Outcome.{Gives}
 use Rattle.reql_datum.specs.Plain.{Plain}
 use Rattle.reql_datum.specs.declared.fault.Fault.{Fault}
@@ -7,10 +7,14 @@ use Rattle.reql_rules.specs.Lists.{Bytes}
 use Rattle.reql_term.specs.Views.{Document, Index}
 use Rattle.reql_table.specs.Seen.{Standing, documents_of, indexes_of, entries_at}
 use Rattle.reql_value.specs.Index.{plain_view}
+use Rattle.reql_value.specs.Shapes.{answered}
 use Rattle.reql_value.specs.World.{World, View}
 use Rattle.reql_write_law.specs.Treated.{Changed, changed_by}
+use Rattle.reql_feed_law.specs.Value.{is_good, shown_alone}
 use Rattle.reql_feed_range.specs.Feed.{coming, rows_given, world_with}
 use Rattle.reql_feed_read.specs.Follows.{shape_of}
+use Rattle.reql_feed_read.specs.Seen.{source_of}
+use Rattle.reql_feed_read.specs.Source.{may_hold}
 use Rattle.reql_feed_read.specs.declared.shape.RangeShape.{RangeShape}
 
 nothing_there : (docs : List Document) → length docs ≡ 0 → docs ≡ []
@@ -34,3 +38,12 @@ viewed_is slot db name key own t indexes d n k x = λ i. (slot, plain_view (d i)
 pub rows_over_shape : (s : RangeShape) (w : World) (t : ℕ × View) (docs : List Document) (r : Result (List Plain) Fault) → w ≡ world_with t → t ≡ (s.slot, plain_view [] 0 [] s.key docs (indexes_of s.empty))
     → Gives (λ items. items) r (rows_given s.term w) → Gives (λ items. items) r (shape_of s docs)
 rows_over_shape s w t docs r e v given = subst (λ x. Gives (λ items. items) r (rows_given s.term x)) (e ∙ ap world_with v) given
+
+-- ---- a document that the source of a shape leaves out
+none_shown : (b : Bool) (vs : List Plain) → length vs ≡ 0 → [] ≡ cond b vs []
+none_shown true [] e = refl
+none_shown true (v ∷ vs) e = absurd (omega (arith, e))
+none_shown false vs e = refl
+
+pub left_out : (s : RangeShape) (k d : Plain) → may_hold (source_of s.source) k ≡ false → [] ≡ shown_alone (shape_of s) (k, d)
+left_out s k d off = none_shown (is_good (shape_of s) (k, d)) (answered (shape_of s ((k, d) ∷ []))) (s.leaves_out (k, d) off)

@@ -28,7 +28,7 @@ nothing_behind : (a : Answer Options) → a ≡ behind [] a
 nothing_behind (Ok os) = refl
 nothing_behind (Err e) = refl
 
-fails_on : {A B : Type 0} (e : Fault) (a : Answer A) (k : A → Answer B) → Fails e a → Fails e (a >>= k)
+pub fails_on : {A B : Type 0} (e : Fault) (a : Answer A) (k : A → Answer B) → Fails e a → Fails e (a >>= k)
 fails_on (QueryLogic s) a k h = rw h refl
 fails_on (NonExistence s) a k h = rw h refl
 fails_on (ResourceLimit s) a k h = rw h refl

@@ -7,7 +7,7 @@ use Rattle.reql_term.specs.declared.op.Op.{Op}
 use Rattle.reql_law.specs.Followed.{arguments, is_get, closed_value, key_of_get, point_key}
 use Rattle.reql_feed_read.specs.Shapes.{as_key, given, is_slot}
 
-arguments_are : (fs : List Form) → arguments (forms_of fs) ≡ fs
+pub arguments_are : (fs : List Form) → arguments (forms_of fs) ≡ fs
 arguments_are [] = refl
 arguments_are (f ∷ fs) = ap (λ t. f ∷ t) (arguments_are fs)
 

@@ -7,6 +7,8 @@ pub mod Named
 pub mod Parts
 pub mod Choices
 pub mod Reading
+pub mod Outside
+pub mod Constants
 pub mod Limits
 pub mod Orders
 pub mod Sends

@@ -120,7 +120,7 @@ over_read key name (form implicit fs) ms = sym (no_part key name implicit fs ms 
 over_read key name (form (function ids f) fs) ms = sym (no_part key name (function ids f) fs ms refl)
 over_read key name (form (operation o gs ns) fs) ms = sym (no_part key name (operation o gs ns) fs ms refl)
 
-part_read : (key name : Bytes) (f : Form) → given (part_of key name f) ≡ part_in key name f
+pub part_read : (key name : Bytes) (f : Form) → given (part_of key name f) ≡ part_in key name f
 part_read key name (slot n) = refl
 part_read key name (operation o fs ms) = by_name (is_between o) (part_between key name (arguments fs) ms) (part_over key name ms (three_in fs)) (over_read key name fs ms)
 part_read key name (literal d) = refl

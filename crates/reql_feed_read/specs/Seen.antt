@@ -6,15 +6,22 @@ use Rattle.reql_term.specs.Views.{index_of}
 use Rattle.reql_feed_law.specs.Watched as law
 use Rattle.reql_law.specs.Followed as reading
 use Rattle.reql_feed_read.specs.Order as the
+use Rattle.reql_feed_read.specs.Source as sources
 use Rattle.reql_feed_read.specs.declared.order.Order.{Order}
 use Rattle.reql_feed_read.specs.declared.order.Part.{Part}
 use Rattle.reql_feed_read.specs.declared.order.Part.TheVariants as parts
 use Rattle.reql_feed_read.specs.declared.first.Ordered.{Ordered}
 use Rattle.reql_feed_read.specs.declared.naming.Target.{Target}
+use Rattle.reql_feed_read.specs.declared.source.Source.{Source}
+use Rattle.reql_feed_read.specs.declared.source.Source.TheVariants as source
 
 abbrev pub part_of : Part → law.Part
 part_of parts.Whole = law.whole
 part_of (parts.Between l lo h ho) = law.between (plain l) lo (plain h) ho
+
+abbrev pub source_of : Source → sources.Source
+source_of (source.InPart p) = sources.in_part (part_of p)
+source_of (source.AtKeys ks) = sources.at_keys ks
 
 abbrev pub order_of : Order → the.Order
 order_of o = record { index = option_map index_of o.index; part = part_of o.part; down = o.down; most = o.most }

@@ -16,6 +16,7 @@ use crate::order::Order;
 use crate::point::asked_key;
 use crate::range::shape_slot;
 use crate::shape::RangeShape;
+use crate::source::read_source;
 use reql_datum::{Datum, Memory};
 use reql_law::{FeedKind, FeedSpec};
 use reql_table::{IndexDef, Table};
@@ -93,7 +94,6 @@ fn asked_slot(spec: &FeedSpec) -> Option<u32>
 }
 
 // The shape of a request on the table in a slot.
-#[tactic(auto, using(crate::proofs::Requests::no_documents))]
 fn shape_on(
     alloc: Global,
     spec: &FeedSpec,
@@ -107,11 +107,13 @@ fn shape_on(
     let key = spec.key.copy()?;
     let term = spec.shape.copy()?;
     let empty = empty_with(alloc, index)?;
+    let source = read_source(alloc, &spec.key, spec.shape.term())?;
     Ok(RangeShape {
         key,
         term,
         slot,
         empty,
+        source,
     })
 }
 

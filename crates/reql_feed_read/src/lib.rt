@@ -15,6 +15,7 @@ mod places;
 mod point;
 mod range;
 mod shape;
+mod source;
 mod threads;
 
 pub use copies::{index_copy, request_copy};
@@ -22,3 +23,4 @@ pub use follows::{Follows, read};
 pub use index::kept_index;
 pub use order::{Order, Part};
 pub use shape::RangeShape;
+pub use source::Source;

@@ -165,7 +165,8 @@ fn part_over(
     }
 }
 
-fn part_by(
+/// The part that an operator gives by the index of a name.
+pub(crate) fn part_by(
     alloc: Global,
     key: &Name,
     name: &Name,
