@@ -16,7 +16,7 @@ use Rattle.reql_feed_law.specs.Value.{contribution_at}
 use Rattle.reql_feed_law.specs.declared.kind.FeedKind.TheVariants as kinds
 use Rattle.reql_law.specs.Table.{Held, feed_of, is_limit}
 use Rattle.reql_law.specs.declared.command.FeedSpec.{FeedSpec}
-use Rattle.reql_feed_range.specs.Feed.{Keeps}
+use Rattle.reql_feed_range.specs.Feed.{Keeps, watched_key}
 use Rattle.reql_feed_read.specs.Follows.{held_of, shape_of, watched, IsOrder, Reads}
 use Rattle.reql_feed_range.specs.Printed.{shows, behind}
 use Rattle.reql_feed_read.specs.declared.follows.Follows.{Follows}
@@ -55,6 +55,16 @@ module _ (spec : FeedSpec) (index : Option IndexDef) (f : Follows) (p : Printer)
 
   nothing_watched : f ≡ follows.Nothing → (feed_of h).watch ≡ nothing h.spec.kind
   nothing_watched e = subst (λ (x : Held). (feed_of x).watch ≡ nothing x.spec.kind) is (subst (λ x. Reads x spec index) e keeps.reads)
+
+  -- the key of the only document
+  pub key_only : (key : Datum) → f ≡ follows.Key key → Some (plain key) ≡ watched_key (feed_of h).watch
+  key_only key e = sym (ap watched_key (key_watched key e))
+
+  pub no_key_of_shape : (s : RangeShape) → f ≡ follows.Shape s → None ≡ watched_key (feed_of h).watch
+  no_key_of_shape s e = sym (ap watched_key (shape_watched s e))
+
+  pub no_key_of_nothing : f ≡ follows.Nothing → None ≡ watched_key (feed_of h).watch
+  no_key_of_nothing e = sym (ap watched_key (nothing_watched e))
 
   module _ {E : Type 0} (result : Result (List Plain) E) (k : Plain) (old new : Option Plain) where
     abbrev IsQueued : List Plain → Type 0

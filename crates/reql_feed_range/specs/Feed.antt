@@ -10,6 +10,7 @@ use Rattle.reql_value.specs.Meaning.{value}
 use Rattle.reql_value.specs.Wanted.{to_sequence}
 use Rattle.reql_value.specs.World.{World, View, bare_world}
 use Rattle.reql_write_law.specs.Treated.{Changed}
+use Rattle.reql_feed_law.specs.Feeds.{Watch, one_key}
 use Rattle.reql_law.specs.Table.{is_limit}
 use Rattle.reql_law.specs.declared.command.FeedSpec.{FeedSpec}
 use Rattle.reql_feed_read.specs.Follows.{Reads}
@@ -37,3 +38,8 @@ pub record Keeps (spec : FeedSpec) (index : Option IndexDef) (f : Follows) (p : 
   pub kind : is_limit spec.kind ≡ false
   pub offsets : p.offsets ≡ spec.offsets
   pub types : p.types ≡ spec.types
+
+-- the key of the only document that is watched, where there is just one
+abbrev pub watched_key : Watch → Option Plain
+watched_key (one_key key) = Some key
+watched_key w = None

@@ -5,6 +5,7 @@ ghost use Rattle.reql_datum.specs.View.{plain};
 ghost use Rattle.reql_memory.specs.Sorted.{AreRisingBy, find_by};
 ghost use Rattle.reql_term.specs.Views.{Document};
 ghost use Rattle.reql_feed_law.specs.Feeds.{kind_of, opening_items, queued};
+ghost use Rattle.reql_feed_range.specs.Feed.{watched_key};
 ghost use Rattle.reql_feed_read.specs.Follows.{Reads, held_of};
 ghost use Rattle.reql_law.specs.Table.{held, feed_of, is_limit};
 ghost use Rattle.reql_table.specs.Seen.{documents_of, indexes_of};
@@ -12,7 +13,7 @@ ghost use Rattle.reql_table.specs.Seen.{documents_of, indexes_of};
 use crate::opening::{open_key, open_nothing, open_shape};
 use crate::printed::Printer;
 use crate::telling::{point_change, range_change};
-use reql_datum::{Items, Memory};
+use reql_datum::{Datum, Items, Memory};
 use reql_feed_read::{Follows, index_copy, kept_index, read, request_copy};
 use reql_law::{FeedKind, FeedSpec};
 use reql_table::{Change, IndexDef, Table};
@@ -108,6 +109,18 @@ impl RangeFeed {
         ensures { result ≡ kind_of (feed_of self.now).watch }
     {
         self.spec.kind
+    }
+
+    /// The key of the document that it follows, where it follows one.
+    pub fn only_key(&self) -> Option<&Datum>
+        ensures { option_map (λ k. plain k.now) result ≡ watched_key (feed_of self.now).watch }
+    {
+        match &self.follows {
+            Follows::Key(key) => Some(key),
+            Follows::Shape(_) => None,
+            Follows::First(_) => unreachable!(),
+            Follows::Nothing => None,
+        }
     }
 
     /// An equal feed that shares what it holds.

@@ -11,6 +11,7 @@ mod Hearings
 mod Landings
 mod Commits
 mod Machine
+pub mod Apart
 mod Answered
 mod Takes
 mod Takings

@@ -1,11 +1,12 @@
 pub mod Turn
 pub mod Items
+pub mod Only
 pub mod Record
 pub mod Keeps
 pub mod Seen
 pub mod Rest
-pub mod Planning
 pub mod Told
+pub mod Planning
 pub mod Ahead
 pub mod Shadows
 pub mod Hearing

@@ -12,6 +12,7 @@ use crate::draft::Draft;
 use crate::drafting::{blanks, commit_all, hear_all};
 use crate::entry::Entry;
 use crate::following::Following;
+use crate::keyed::Keyed;
 use crate::taking::{finds_something, take_of};
 use crate::telling::tell_entries;
 use reql_datum::Datum;
@@ -25,7 +26,7 @@ use std::marker::Model;
 /// with each feed as it is kept.
 #[derive(Drop)]
 pub struct Feeds<F: Following> {
-    entries: Vec<Entry<F>>,
+    entries: Vec<Entry<Keyed<F>>>,
 }
 
 impl<F: Following> Model for Feeds<F> {
@@ -71,12 +72,13 @@ impl<F: Following> Feeds<F> {
         ensures { self.new ≡ (if is_ok result then self.old ++ fresh owner number stamp feed ∷ []
             else self.old) }
     {
-        let queue = Queue::new(feed.spec().size.max(1));
+        let kept = Keyed::new(*self.entries.allocator(), feed)?;
+        let queue = Queue::new(kept.spec().size.max(1));
         self.entries.push(Entry {
             owner,
             number,
             opened: stamp,
-            kept: feed,
+            kept,
             queue,
         })?;
         Ok(())

@@ -1,12 +1,16 @@
 // What a feed is to the table that keeps it.
-ghost use Rattle.std.specs.Prelude.{◌≡◌, List, IfOk, IfSome, IfNone};
+ghost use Rattle.std.specs.Prelude.{◌≡◌, List, Option, Some, option_map, IfOk, IfSome, IfNone};
+ghost use Rattle.reql_datum.specs.Plain.{Plain};
+ghost use Rattle.reql_datum.specs.View.{plain};
 ghost use Rattle.reql_feed_law.specs.Feeds.{kind_of};
 ghost use Rattle.reql_law.specs.Table.{Held, feed_of};
 ghost use Rattle.reql_term.specs.Views.{Document};
 ghost use Rattle.reql_feeds.specs.Turn.{told, undone, due, Leads};
 ghost use Rattle.reql_feeds.specs.Items.{items_in};
+ghost use Rattle.reql_feeds.specs.Only.{IsOfOne};
 
 use crate::prepared::Prepared;
+use reql_datum::Datum;
 use reql_feed_law::FeedKind;
 use reql_law::FeedSpec;
 use reql_memory::Memory;
@@ -38,6 +42,9 @@ pub trait Following: Drop {
 
     ghost brings: { Self → Self.Step → List Document → Type 0 };
 
+    // The key of the only document that a feed looks at, where there is just one.
+    ghost only: { Self → Option Plain };
+
     /// What it was asked for.
     fn spec(&self) -> &FeedSpec
         ensures { result.now ≡ (held self.now).spec };
@@ -45,6 +52,10 @@ pub trait Following: Drop {
     /// What kind of feed it is.
     fn kind(&self) -> FeedKind
         ensures { result ≡ kind_of (feed_of (held self.now)).watch };
+
+    /// The key of the only document whose changes are anything to it, where there is just one.
+    fn only_key(&self) -> Option<&Datum>
+        ensures { option_map (λ k. plain k.now) result ≡ only self.now };
 
     /// What a change of one document is to the feed: the items that are queued for it, and what it makes
     /// of the feed. Nothing where nothing is queued and the feed stays as it is. `after` is the table
@@ -70,9 +81,13 @@ pub trait Following: Drop {
         requires { installs self.old step }
         ensures fits { (docs : List Document) → brings self.old step docs → fits self.new docs }
         ensures held { held self.new ≡ held self.old }
+        ensures only { only self.new ≡ only self.old }
         ensures reads { (table : Self.After) → reads self.old table → reads self.new table };
 
     /// An equal feed that later calls on the first don't change.
     fn share(&self, alloc: Global) -> Result<Self, Memory>
         ensures { IfOk result (λ f. f ≡ self.now) };
+
+    // Changes of other documents than the only one are nothing to it.
+    ghost of_one: { (f : Self) (key : Plain) → only f ≡ Some key → IsOfOne held fits f key };
 }

@@ -9,6 +9,7 @@ mod entry;
 mod feeds;
 mod finding;
 mod following;
+mod keyed;
 mod laws;
 mod prepared;
 mod shadow;

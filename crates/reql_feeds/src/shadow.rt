@@ -12,6 +12,7 @@ ghost use Rattle.reql_feeds.specs.Turn.{told, undone, Leads};
 
 use crate::entry::Entry;
 use crate::following::Following;
+use crate::keyed::passes_over;
 use crate::prepared::Prepared;
 use reql_datum::Datum;
 use reql_memory::Memory;
@@ -106,7 +107,11 @@ pub(crate) fn hear<F: Following>(
         (forecast F.held (seen entry.now) (pending shadow.old))
         (forecast F.held (seen entry.now) (pending shadow.new))) }
 {
-    match current(entry, shadow).prepare(alloc, change, after)? {
+    let kept = current(entry, shadow);
+    if passes_over(kept, change) {
+        return Ok(());
+    }
+    match kept.prepare(alloc, change, after)? {
         None => Ok(()),
         Some(prepared) => {
             follow(alloc, entry, shadow, prepared, stamp + 1)?;

@@ -7,7 +7,7 @@ ghost use Rattle.reql_queue.specs.Record.{all_pushed};
 ghost use Rattle.reql_table_machine.specs.Feeds.{push_all};
 ghost use Rattle.reql_term.specs.Views.{Document};
 ghost use Rattle.reql_feeds.specs.Keeps.{IsSized, feeds_of};
-ghost use Rattle.reql_feeds.specs.Planning.{plan_of};
+ghost use Rattle.reql_feeds.specs.Planning.{plan_of, IsNoted};
 ghost use Rattle.reql_feeds.specs.Record.{record_of, kept_in, AllFit};
 ghost use Rattle.reql_feeds.specs.Seen.{seen, sized, all_sized};
 ghost use Rattle.reql_feeds.specs.Told.{stamped, noticed, IsAnswered, Planned, Turns};
@@ -15,6 +15,7 @@ ghost use Rattle.reql_feeds.specs.Turn.{told, undone, Leads};
 
 use crate::entry::Entry;
 use crate::following::Following;
+use crate::keyed::passes_over;
 use crate::prepared::{Plan, Prepared};
 use reql_datum::Datum;
 use reql_memory::Memory;
@@ -73,6 +74,31 @@ fn note<S: Drop>(
     }
 }
 
+// Notes what a change is to the feed at a place. That of another document than the only one that the
+// feed looks at is nothing.
+fn plan_one<F: Following>(
+    alloc: Global,
+    plans: &mut Vec<Plan<F::Step>>,
+    place: usize,
+    entry: &mut Entry<F>,
+    change: &Change,
+    after: &F::After,
+) -> Result<(), Memory>
+    requires leads { Leads (told change.now) (F.documents after.now) }
+    requires fits { F.fits entry.old.kept (undone (told change.now) (F.documents after.now)) }
+    requires reads { F.reads entry.old.kept after.now }
+    ensures same { sized entry.new ≡ sized entry.old }
+    ensures noted { IfOk result (λ _. IsNoted F.held F.fits F.installs F.brings (told change.now)
+        (F.documents after.now) place entry.new plans.old.items plans.new.items) }
+{
+    if passes_over(&entry.kept, change) {
+        return Ok(());
+    }
+    let prepared = prepare_one(alloc, entry, change, after)?;
+    note(plans, place, prepared)?;
+    Ok(())
+}
+
 // What a change is to each feed to which it is something.
 fn prepare_all<F: Following>(
     alloc: Global,
@@ -91,8 +117,7 @@ fn prepare_all<F: Following>(
     let mut plans = Vec::new(alloc);
     for place in 0..entries.len() {
         let entry = &mut entries[place];
-        let prepared = prepare_one(alloc, entry, change, after)?;
-        note(&mut plans, place, prepared)?;
+        plan_one(alloc, &mut plans, place, entry, change, after)?;
     }
     Ok(plans)
 }

@@ -1,3 +1,4 @@
 pub mod First
 pub mod Open
 pub mod Stays
+pub mod Alone

@@ -1,8 +1,10 @@
 -- A feed of any kind as it is kept.
 use Rattle.std.specs.Prelude.{List, Option, Some, None}
+use Rattle.reql_datum.specs.Plain.{Plain}
 use Rattle.reql_term.specs.Views.{Document}
-use Rattle.reql_law.specs.Table.{Held}
+use Rattle.reql_law.specs.Table.{Held, feed_of}
 use Rattle.reql_table.specs.Seen.{Standing}
+use Rattle.reql_feed_range.specs.Feed.{watched_key}
 use Rattle.reql_feed_limit.specs.Seen.{seen_step}
 use Rattle.reql_feed_limit.specs.declared.element.LimitStep.{LimitStep}
 use Rattle.reql_open_feed.specs.First.{FirstFits, FirstReads, FirstInstalls, FirstBrings}
@@ -21,6 +23,11 @@ Fits (feeds.First f) docs = FirstFits f.feed docs
 abbrev pub Reads : OpenFeed → Standing → Type 0
 Reads (feeds.Range h) t = Unit {0}
 Reads (feeds.First f) t = FirstReads f.feed t
+
+-- a feed of one document looks at that alone
+abbrev pub only_in : OpenFeed → Option Plain
+only_in (feeds.Range h) = watched_key (feed_of h).watch
+only_in (feeds.First f) = None
 
 -- a step of the elements of a limit feed
 abbrev pub StepInstalls : OpenFeed → LimitStep → Type 0

@@ -1,11 +1,13 @@
 // A feed of any kind as a table keeps it.
 ghost use Rattle.std.specs.Prelude.{◌≡◌, List};
-ghost use Rattle.reql_open_feed.specs.Open.{held_in, Fits, Reads, Installs, Brings, StepInstalls, StepBrings};
+ghost use Rattle.reql_open_feed.specs.Alone.{alone};
+ghost use Rattle.reql_open_feed.specs.Open.{held_in, only_in, Fits, Reads, Installs, Brings, StepInstalls, StepBrings};
 ghost use Rattle.reql_table.specs.Seen.{Standing, documents_of};
 ghost use Rattle.reql_term.specs.Views.{Document};
 
 use crate::first::FirstFeed;
 use crate::preparing::{first_prepared, range_prepared};
+use reql_datum::Datum;
 use reql_feed_limit::LimitStep;
 use reql_feed_range::RangeFeed;
 use reql_feeds::{Change, Following, Prepared};
@@ -27,6 +29,7 @@ impl OpenFeed {
         requires { StepInstalls self.old step }
         ensures fits { (docs : List Document) → StepBrings self.old step docs → Fits self.new docs }
         ensures held { held_in self.new ≡ held_in self.old }
+        ensures only { only_in self.new ≡ only_in self.old }
         ensures reads { (table : Standing) → Reads self.old table → Reads self.new table }
     {
         match self {
@@ -53,6 +56,8 @@ impl Following for OpenFeed {
 
     ghost brings = { Brings };
 
+    ghost only = { only_in };
+
     fn spec(&self) -> &FeedSpec {
         match self {
             OpenFeed::Range(feed) => feed.spec(),
@@ -64,6 +69,13 @@ impl Following for OpenFeed {
         match self {
             OpenFeed::Range(feed) => feed.kind(),
             OpenFeed::First(feed) => feed.kind(),
+        }
+    }
+
+    fn only_key(&self) -> Option<&Datum> {
+        match self {
+            OpenFeed::Range(feed) => feed.only_key(),
+            OpenFeed::First(_) => None,
         }
     }
 
@@ -97,4 +109,6 @@ impl Following for OpenFeed {
             }
         }
     }
+
+    ghost of_one = { alone };
 }

@@ -13,7 +13,7 @@ use Rattle.reql_feeds.proofs.feeds.Feeds.open.Goals as goal
 
 pub invariant_of-self-2 : goal.invariant_of-self-2
 invariant_of-self-2 g c =
-    let e : Entry g.row.F.Denot = record { owner = c.args.owner; number = c.args.number; opened = c.args.stamp; kept = c.args.feed; queue = c.new-queue.result } in
+    let e : Entry g.row.F.Denot = record { owner = c.args.owner; number = c.args.number; opened = c.args.stamp; kept = c.in_ok-kept.kept; queue = c.new-queue.result } in
     let size : IsSized g.F.Following.held (sized e) = ap (λ (q : Queued _). q.size) c.new-queue.ensures ∙ (c.max.ensures ∙ (one_counts c.spec.result.now.size ∙ ap (λ (s : FeedSpec). at_least_one s.size) c.spec.ensures)) in
     let below : All (λ (f : Feed g.row.F.Denot Plain). f.number < c.args.number) (feeds_of (all_sized c.self.inside.entries.items)) = rw (← c.self.view_is) at c.requires in
     subst (λ (l : List (Entry g.row.F.Denot)). Keeps g.F.Following.held (all_sized l)) (sym c.in_ok-push.ensures.items)
