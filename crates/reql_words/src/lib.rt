@@ -1,7 +1,6 @@
 //! The words of the server's command line, and what they ask for.
 #![tactic(auto)]
 
-mod load;
 mod numbers;
 mod options;
 mod tables;
