@@ -7,6 +7,6 @@ mod outcome;
 mod serving;
 mod threads;
 
-pub use listening::{Heard, listen};
+pub use listening::{Heard, listen, serve_posts};
 pub use outcome::{Core, Outcome};
 pub use serving::run;

@@ -71,14 +71,16 @@ fn status_of_workers<G: Door>(workers: &[Left<G>]) -> u8
     status
 }
 
-// Serves the sessions of these posts to who has the key, with these tables from the start.
-fn serve_posts<R, G, D, T>(
+/// Serves the sessions of these posts, up to so many, to who has the key, with these tables from the start. So many of the first
+/// posts begin when the others have ended.
+pub fn serve_posts<R, G, D, T>(
     rt: &R,
     alloc: Global,
     key: &str,
     tables: &[(&str, &str)],
     posts: Vec<Post<G, D, T>>,
     sessions: u64,
+    later: usize,
 ) -> Result<Many<Core, G>, Memory>
 where
     R: Threads + Wait + Sync,
@@ -97,7 +99,7 @@ where
     let engines = engines(alloc, &limits)?;
     let key = key.as_bytes().to_vec(alloc)?;
     let planner = QueryPlanner::<Core>::new(QueryPlans { key, limits });
-    serve_many(rt, alloc, names, engines, &planner, posts, sessions)
+    serve_many(rt, alloc, names, engines, &planner, posts, sessions, later)
 }
 
 // Serves the sessions that come to a port, by so many workers.
@@ -125,7 +127,7 @@ where
     ensures failed { IfErr result (Counts (N.told net.old) (N.told net.new) port workers) }
 {
     let posts = net.doors(alloc, port, workers)?;
-    match serve_posts(rt, alloc, key, tables, posts, sessions) {
+    match serve_posts(rt, alloc, key, tables, posts, sessions, 0) {
         Ok(many) => Ok(many),
         Err(Memory) => Err(NetFault::Memory),
     }

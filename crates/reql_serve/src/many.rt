@@ -5,7 +5,7 @@ ghost use Rattle.reql_serve.specs.Working.{outside};
 ghost use Rattle.reql_serve.specs.Many.{SharesAddUp, ServesMany, at_end};
 
 use crate::seats::{Parted, part, seat_all};
-use crate::serving::serve_all;
+use crate::serving::serve_in_turn;
 use crate::worker::{Member, WorkState};
 use reql_catalog::Catalogue;
 use reql_hall::{FinalHall, Hall};
@@ -39,8 +39,9 @@ pub struct Many<C: TableEngine, G: Door> {
 }
 
 /// Serves up to so many sessions at a hall of these names and engines, which nobody has used: a worker for each post, on a
-/// thread of its own where one can be made, each at a desk of its own, with its share of the sessions. Memory where there is
-/// none to begin with, or more than 2^32 - 1 posts; then no door was asked.
+/// thread of its own where one can be made, each at a desk of its own, with its share of the sessions. So many of the first
+/// workers begin when the others have ended. Memory where there is none to begin with, or more than 2^32 - 1 posts; then no
+/// door was asked.
 pub fn serve_many<R, C, P, G, D, T>(
     rt: &R,
     alloc: Global,
@@ -49,6 +50,7 @@ pub fn serve_many<R, C, P, G, D, T>(
     planner: &P,
     posts: Vec<Post<G, D, T>>,
     sessions: u64,
+    later: usize,
 ) -> Result<Many<C, G>, Memory>
 where
     R: Threads + Wait + Sync,
@@ -77,7 +79,7 @@ where
     let room_after = Parted::with_room(alloc, posts.len())?;
     let (hall, desks, room) = Hall::new(alloc, names, engines, count)?;
     let mut workers = seat_all(alloc, posts, desks, sessions)?;
-    serve_all(rt, alloc, &hall, slots, planner, &mut workers);
+    serve_in_turn(rt, alloc, &hall, slots, planner, &mut workers, later);
     let parted = part(workers, room_after);
     let hall = hall.close(rt, parted.desks, room);
     Ok(Many {

@@ -55,3 +55,41 @@ where
         &|_, worker| work(rt, alloc, hall, slots, planner, worker),
     );
 }
+
+/// The same, but that so many of the first workers begin when the others have ended.
+pub(crate) fn serve_in_turn<R, C, P, G, D, T>(
+    rt: &R,
+    alloc: Global,
+    hall: &Hall<C, Catalogue>,
+    slots: u32,
+    planner: &P,
+    workers: &mut [Worker<C, G, D, T>],
+    later: usize,
+)
+where
+    R: Threads + Wait + Sync,
+    C: TableEngine + Drop + Send,
+    P: Planner<View = <C as TableEngine>::View> + Sync,
+    <P as Planning>::Plan: Drop + Send,
+    <P as Planner>::Course: Drop + Send,
+    <P as Planner>::View: Send,
+    G: Door + Send,
+    G::Link: Send,
+    <G::Link as Link>::Record: Send,
+    D: Dice + Drop + Send,
+    T: Clock + Drop + Send,
+    requires of_this_hall { All (λ w. SitsAt hall.now w.bench) workers.old }
+    requires slots { slots ≡ length hall.now.slots }
+    requires unused { All (λ w. w.ended.items ≡ []) workers.old }
+    ensures { (k : ℕ) (w : _) → k < length workers.old
+        → WorkedThere (P.talk planner.now) C.some_state G.Link.kept T.told D.told hall.now
+        (slice_index_or workers.old k w).bench (slice_index_or workers.new k w).bench
+        (G.told (slice_index_or workers.old k w).door) (G.told (slice_index_or workers.new k w).door)
+        (slice_index_or workers.old k w).left (slice_index_or workers.new k w).left
+        (slice_index_or workers.new k w).ended.items (slice_index_or workers.new k w).state }
+{
+    let place = later.min(workers.len());
+    let (last, first) = workers.split_at_mut(place);
+    serve_all(rt, alloc, hall, slots, planner, first);
+    serve_all(rt, alloc, hall, slots, planner, last);
+}

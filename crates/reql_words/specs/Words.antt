@@ -18,10 +18,11 @@ use Rattle.reql_words.specs.declared.words.Wanted.{Wanted}
 use Rattle.reql_words.specs.declared.words.Wanted.TheVariants as wanted
 
 -- what the words ask for; sessions are served by a key, with tables by database and name, one of them over standard input and output,
--- or on a port so many at once and so many in all; in place of a word that is not within, a number from the least to the most is wanted
+-- or on a port so many at once and so many in all; a load has a seed and a size; in place of a word that is not within, a number from the least to the most is wanted
 pub data Asks : Type 0 where
   Stdio : List ℕ → List (List ℕ × List ℕ) → Asks
   Listen : ℕ → ℕ → ℕ → List ℕ → List (List ℕ × List ℕ) → Asks
+  Load : ℕ → ℕ → Asks
   Help : Asks
   Version : Asks
   Wrong : List ℕ → Asks
@@ -88,8 +89,11 @@ abbrev pub number_or : List ℕ → ℕ → ℕ → Option ℕ → Result ℕ As
 number_or value least most None = Err (NotWithin value least most)
 number_or value least most (Some n) = Ok n
 
+abbrev pub within_or : List ℕ → ℕ → ℕ → Result ℕ Asks
+within_or word least most = number_or word least most (number_within least most word)
+
 abbrev pub number_once : List ℕ → List ℕ → Bool → ℕ → ℕ → Result ℕ Asks
-number_once word value is_first least most = cond is_first (number_or value least most (number_within least most value)) (Err (Wrong word))
+number_once word value is_first least most = cond is_first (within_or value least most) (Err (Wrong word))
 
 abbrev pub put : Result ℕ Asks → (ℕ → Said) → Result Said Asks
 put (Ok n) said = Ok (said n)
@@ -158,13 +162,31 @@ abbrev pub ends_in : Asks → List (List ℕ) → Asks
 ends_in asks [] = asks
 ends_in asks (w ∷ ws) = Wrong w
 
+-- a load is asked for by its seed, 0 to 1000000, and its size, 1 to 20000
+abbrev pub with_size : ℕ → List (List ℕ) → Result ℕ Asks → Asks
+with_size seed ws (Ok size) = ends_in (Load seed size) ws
+with_size seed ws (Err why) = why
+
+abbrev pub asks_size : ℕ → List (List ℕ) → Asks
+asks_size seed [] = Missing wanted.Size
+asks_size seed (w ∷ ws) = with_size seed ws (within_or w 1 20000)
+
+abbrev pub with_seed : List (List ℕ) → Result ℕ Asks → Asks
+with_seed ws (Ok seed) = asks_size seed ws
+with_seed ws (Err why) = why
+
+abbrev pub asks_load : List (List ℕ) → Asks
+asks_load [] = Missing wanted.Seed
+asks_load (w ∷ ws) = with_seed ws (within_or w 0 1000000)
+
 abbrev pub asks : List (List ℕ) → Asks
 asks [] = Missing wanted.Command
 asks (w ∷ ws) =
     cond (bytes_eq w (codes "stdio")) (asks_options ws (said_nothing servers.Stdio))
     (cond (bytes_eq w (codes "listen")) (asks_options ws (said_nothing servers.Listen))
+    (cond (bytes_eq w (codes "load")) (asks_load ws)
     (cond (bytes_eq w (codes "--help")) (ends_in Help ws)
-    (cond (bytes_eq w (codes "--version")) (ends_in Version ws) (Wrong w))))
+    (cond (bytes_eq w (codes "--version")) (ends_in Version ws) (Wrong w)))))
 
 -- a table as a command and the options hold it
 abbrev pub named : Bor (List ℕ) × Bor (List ℕ) → List ℕ × List ℕ
@@ -183,6 +205,7 @@ refused (refuses.Missing what) = Missing what
 abbrev pub Says : Asks → Command → Type 0
 Says a (says.Stdio key tables) = a ≡ Stdio key.now (map named tables.items)
 Says a (says.Listen port workers sessions key tables) = a ≡ Listen port workers sessions key.now (map named tables.items)
+Says a (says.Load seed size) = a ≡ Load seed size
 Says a says.Help = a ≡ Help
 Says a says.Version = a ≡ Version
 Says a (says.Refused refusal) = a ≡ refused refusal

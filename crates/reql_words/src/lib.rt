@@ -1,6 +1,7 @@
 //! The words of the server's command line, and what they ask for.
 #![tactic(auto)]
 
+mod load;
 mod numbers;
 mod options;
 mod tables;

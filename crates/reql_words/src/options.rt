@@ -1,6 +1,6 @@
 // The options of a command, one after another.
 ghost use Rattle.std.specs.Prelude.{◌≡◌, ◌≤◌, map, string_bytes, is_none, option_map, unwrap_or, IfOk, []};
-ghost use Rattle.reql_words.specs.Words.{Missing, Numbers, Says, SaysAll, Steps, asks_options, lacks_number, lacks_value, listens, number_once, refused, said_nothing, said_of, serves, with_key, with_number, with_option, with_port, with_sessions, with_table, with_workers};
+ghost use Rattle.reql_words.specs.Words.{Missing, Numbers, Says, SaysAll, Steps, asks_options, lacks_number, lacks_value, listens, number_once, refused, said_nothing, said_of, serves, with_key, with_number, with_option, with_port, with_sessions, with_table, with_workers, within_or};
 ghost use Rattle.reql_words.specs.declared.options.Server.TheVariants as servers;
 
 use crate::numbers::number_within;
@@ -185,13 +185,17 @@ fn number_once<'a>(
     if !is_first {
         return Err(Refusal::Wrong { word });
     }
-    match number_within(value, least, most) {
+    number_or(value, least, most)
+}
+
+// The number in a word, or why it isn't right.
+pub(crate) fn number_or<'a>(word: &'a str, least: u64, most: u64) -> Result<u64, Refusal<'a>>
+    ensures said { Numbers (within_or word.now least most) result }
+    ensures within { IfOk result (λ n. n ≤ most) }
+{
+    match number_within(word, least, most) {
         Some(number) => Ok(number),
-        None => Err(Refusal::NotWithin {
-            word: value,
-            least,
-            most,
-        }),
+        None => Err(Refusal::NotWithin { word, least, most }),
     }
 }
 
@@ -227,7 +231,8 @@ fn lacks_number<'a>(word: &'a str, said: &Options<'a>) -> Refusal<'a>
     Refusal::Wrong { word }
 }
 
-fn missing<'a>(what: Wanted) -> Refusal<'a>
+// The words end where this is wanted.
+pub(crate) fn missing<'a>(what: Wanted) -> Refusal<'a>
     ensures { Missing what ≡ refused result }
 {
     Refusal::Missing { what }

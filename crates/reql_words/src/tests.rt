@@ -3,7 +3,7 @@ use std::alloc::Global;
 use std::test::Fail;
 
 // Words, and what they ask for, as `shown` says it.
-const CASES: [(&[&str], &str); 65] = [
+const CASES: [(&[&str], &str); 74] = [
     (&[], "a command is missing"),
     (&["--help"], "help"),
     (&["--help", "stdio"], "wrong `stdio`"),
@@ -83,7 +83,16 @@ const CASES: [(&[&str], &str); 65] = [
     ),
     (&["listen", "--table", "docs"], "wrong `docs`"),
     (&["stdio", "--workers"], "wrong `--workers`"),
-    (&["load", "1", "2"], "wrong `load`"),
+    (&["load", "0", "1"], "load 0 1"),
+    (&["load", "1000000", "20000"], "load 1000000 20000"),
+    (&["load"], "a seed is missing"),
+    (&["load", "7"], "a size is missing"),
+    (&["load", "1000001", "400"], "`1000001` isn't 0 to 1000000"),
+    (&["load", "07", "400"], "`07` isn't 0 to 1000000"),
+    (&["load", "--key", "k"], "`--key` isn't 0 to 1000000"),
+    (&["load", "7", "0"], "`0` isn't 1 to 20000"),
+    (&["load", "7", "20001"], "`20001` isn't 1 to 20000"),
+    (&["load", "7", "400", "--key"], "wrong `--key`"),
     (&["--key", "k", "stdio"], "wrong `--key`"),
     (&["stdio"], "stdio ``"),
     (&["stdio", "docs"], "wrong `docs`"),
@@ -145,6 +154,8 @@ fn missing(what: Wanted) -> &'static str {
         Wanted::Port => "a port is missing",
         Wanted::Workers => "a number of workers is missing",
         Wanted::Sessions => "a number of sessions is missing",
+        Wanted::Seed => "a seed is missing",
+        Wanted::Size => "a size is missing",
     }
 }
 
@@ -175,6 +186,7 @@ fn shown(alloc: Global, command: &Command<'_>) -> Result<String, Fail> {
             let text = format!(in alloc; "listen {port} {workers} {sessions} `{key}`")?;
             with_tables(alloc, text, tables.as_slice())
         }
+        Command::Load { seed, size } => Ok(format!(in alloc; "load {seed} {size}")?),
         Command::Help => Ok(String::from_str(alloc, "help")?),
         Command::Version => Ok(String::from_str(alloc, "version")?),
         Command::Refused(Refusal::Wrong { word }) => Ok(format!(in alloc; "wrong `{word}`")?),

@@ -2,6 +2,7 @@
 ghost use Rattle.std.specs.Prelude.{map, string_bytes};
 ghost use Rattle.reql_words.specs.Words.{Asks, Says, asks, asks_options, ends_in, said_nothing};
 
+use crate::load::load_of;
 use crate::options::{Options, Server, say_all};
 use crate::tables::Tables;
 
@@ -19,6 +20,10 @@ pub enum Wanted {
     Workers,
     /// The number of sessions after `--sessions`.
     Sessions,
+    /// The seed after `load`.
+    Seed,
+    /// The number of documents after the seed.
+    Size,
 }
 
 /// Why words ask for nothing.
@@ -59,6 +64,11 @@ pub enum Command<'a> {
         key: &'a str,
         tables: Tables<'a>,
     },
+    /// Serve the load of this seed, 0 to 1000000, with so many documents, 1 to 20000, and say what it left.
+    Load {
+        seed: u32,
+        size: u32,
+    },
     /// Say how to use the program.
     Help,
     /// Say which version of the program this is.
@@ -69,9 +79,9 @@ pub enum Command<'a> {
 
 /// What the words ask for: `stdio [--key K] [--table DB.NAME]..` or
 /// `listen --port P [--workers W] [--sessions S] [--key K] [--table DB.NAME]..`, the options in any
-/// order, `--help` or `--version`, each alone. A key has at most 1024 bytes, there are at most 256
-/// tables, P is 1 to 65535, W is 1 to 64 and 4 where it isn't said, and S is 1 to 4294967295, and this
-/// where it isn't said. It takes no memory.
+/// order, `load SEED SIZE`, `--help` or `--version`, each alone. A key has at most 1024 bytes, there are
+/// at most 256 tables, P is 1 to 65535, W is 1 to 64 and 4 where it isn't said, and S is 1 to 4294967295,
+/// and this where it isn't said; SEED is 0 to 1000000 and SIZE 1 to 20000. It takes no memory.
 pub fn command_of(words: &[String]) -> Command<'_>
     ensures { Says (asks (map string_bytes words.now)) result }
 {
@@ -83,6 +93,7 @@ pub fn command_of(words: &[String]) -> Command<'_>
     match first.as_str() {
         "stdio" => server_of(Server::Stdio, rest),
         "listen" => server_of(Server::Listen, rest),
+        "load" => load_of(rest),
         "--help" => ended(Command::Help, rest),
         "--version" => ended(Command::Version, rest),
         word => Command::Refused(Refusal::Wrong { word }),
@@ -101,7 +112,7 @@ fn server_of(server: Server, words: &[String]) -> Command<'_>
 }
 
 // A command after which no word may stand.
-fn ended<'a>(command: Command<'a>, rest: &'a [String]) -> Command<'a>
+pub(crate) fn ended<'a>(command: Command<'a>, rest: &'a [String]) -> Command<'a>
     ensures { (a : Asks) → Says a command.entry → Says (ends_in a (map string_bytes rest.now))
         result }
 {

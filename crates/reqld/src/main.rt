@@ -1,11 +1,13 @@
 //! `reqld`: a document database server that speaks RethinkDB's client protocol.
 //!
-//! It serves one session over standard input and output, or those of clients that connect to a port. `run` and `listen`
-//! of `reql_run` are the whole server; `main` hands them the process's words and devices.
+//! It serves one session over standard input and output, those of clients that connect to a port, or a load of its own. `run` and
+//! `listen` of `reql_run` are the whole server, and `load` of `reql_loading` is it under that load; `main` hands them the process's
+//! words and devices.
 #![tactic(auto)]
 
+use reql_loading::load;
 use reql_net::TcpNet;
-use reql_outside::{OsClock, OsDice, StdLink};
+use reql_outside::{OsClock, OsDice, StdLink, StdSink};
 use reql_run::{listen, run};
 use reql_words::{Command, Refusal, Wanted, command_of};
 use std::env;
@@ -20,6 +22,10 @@ usage:
       serves one session over standard input and output
   reqld listen --port PORT [--workers N] [--sessions N] [--key KEY] [--table DB.NAME]..
       serves clients that connect to this port of 127.0.0.1
+  reqld load SEED SIZE
+      serves four sessions of its own at once, which write SIZE documents, 1 to 20000, and follow them
+      with feeds, and prints how many documents and changes there were, how many feeds, and how many
+      of these were told what their queries came to; SEED, 0 to 1000000, varies the documents
   reqld --help      says this
   reqld --version   says which version this is
 
@@ -53,13 +59,14 @@ server, 1024 open feeds of a table, 1024 open cursors and feeds of a session.
 status of stdio: 0 the input ended between two requests, 2 the words are wrong, 4 reading failed,
 5 writing failed, 6 the input ended within a greeting or a request, 7 the greeting was refused,
 8 out of memory, 9 a request was too long.
+status of load: 0 it printed its four lines, 2 the words are wrong, 5 writing failed, 8 out of memory.
 status of listen: 0 it served as many sessions as it was told, however they ended, 2 the words are
 wrong, 3 the port can't be opened, or no more clients can be taken from it, 8 out of memory.
 ";
 
 const RIGHT: &str = "reqld stdio [--key KEY] [--table DB.NAME].., \
     reqld listen --port PORT [--workers N] [--sessions N] [--key KEY] [--table DB.NAME].., \
-    --help or --version";
+    reqld load SEED SIZE, --help or --version";
 
 // What is wanted where the words end too early, as a message says it.
 fn wanted(what: Wanted) -> &'static str {
@@ -70,6 +77,8 @@ fn wanted(what: Wanted) -> &'static str {
         Wanted::Port => "a port, 1 to 65535, after --port",
         Wanted::Workers => "a number of workers, 1 to 64, after --workers",
         Wanted::Sessions => "a number of sessions, 1 to 4294967295, after --sessions",
+        Wanted::Seed => "a seed, 0 to 1000000, after load",
+        Wanted::Size => "a number of documents, 1 to 20000, after the seed",
     }
 }
 
@@ -137,6 +146,16 @@ fn told(rt: &HostRuntime, port: u16, status: u8, is_opened: bool) -> ExitCode {
     ExitCode::from(status)
 }
 
+// Says on standard error why a load printed nothing.
+fn unprinted(rt: &HostRuntime, status: u8) -> ExitCode {
+    let _ = match status {
+        5 => eprintln!(rt; "reqld: the standard output can't be written"),
+        8 => eprintln!(rt; "reqld: out of memory"),
+        _ => Ok(()),
+    };
+    ExitCode::from(status)
+}
+
 fn main(rt: HostRuntime) -> ExitCode {
     let alloc = rt.alloc();
     let words = match words_of(&rt) {
@@ -154,6 +173,10 @@ fn main(rt: HostRuntime) -> ExitCode {
             };
             let outcome = listen(&rt, alloc, &words, &mut net);
             told(&rt, port, outcome.status, outcome.ended.is_some())
+        }
+        Command::Load { .. } => {
+            let loaded = load(&rt, alloc, &words, &mut StdSink::new(rt));
+            unprinted(&rt, loaded.status)
         }
         Command::Stdio { .. } => {
             let (dice, clock) = (OsDice::new(rt), OsClock::new(rt));

@@ -1,0 +1,12 @@
+use Rattle.std.proofs.Common.{[], ◌∷◌, All, length, length-append, sym, ap, subst, arith}
+use Rattle.std.proofs.lemmas.List.Elements.{All-push}
+use Rattle.reql_net.specs.Nets.{IsUntouched}
+use Rattle.reql_loading.proofs.posts.posts.Goals as goal
+
+pub loop-session-preserved : goal.loop-session-preserved
+loop-session-preserved c =
+    let is = c.in_ok-push.ensures.items in
+    let posts = c.loop-session.posts.items in
+    let post = c.in_ok-post.field-0 in
+    (omega (arith, ap length is, length-append posts (post ∷ []), c.loop-session.invariant.0),
+    subst (All (IsUntouched (λ d. d.told))) (sym is) (All-push (IsUntouched (λ d. d.told)) posts post c.loop-session.invariant.1 c.in_ok-post.ensures))

@@ -1,0 +1,123 @@
+// A load, from its words to what it prints.
+ghost use Rattle.std.specs.Prelude.{◌<◌, length, map, string_bytes, IfOk, IfSome, MatchOption};
+ghost use Rattle.reql_words.specs.Words.{asks};
+ghost use Rattle.reql_core.specs.Live.{state_of};
+ghost use Rattle.reql_open_feed.specs.Open.{held_in};
+ghost use Rattle.reql_serve.specs.Many.{at_end};
+ghost use Rattle.reql_loading.specs.Loading.{IsServed, Loads, Prints, Reports, Unloaded};
+
+use crate::posts::{SESSIONS, posts};
+use crate::printing::lines;
+use crate::whole::are_whole;
+use reql_law::Limits;
+use reql_memory::Memory;
+use reql_net::MemDoor;
+use reql_outside::{Put, Sink};
+use reql_run::{Core, serve_posts};
+use reql_serve::Many;
+use reql_tally::tally_history;
+use reql_words::{Command, command_of};
+use std::alloc::Global;
+use std::sync::Wait;
+use std::thread::Threads;
+
+/// How a load ended.
+#[derive(Drop)]
+pub struct Loaded {
+    /// 0: what the sessions left was counted, and printed. 2: the words ask for no load. 5: the sink
+    /// failed. 8: memory was wanted, by a session or to count.
+    pub status: u8,
+    /// The sessions, by the desks at which they were served, and the hall with its whole histories.
+    /// None with the status 2, and where memory was wanted to begin with.
+    pub ended: Option<Many<Core, MemDoor>>,
+}
+
+// Serves the sessions of a load. The four that write begin when the one that makes their index has ended.
+fn serve_load<R>(rt: &R, alloc: Global, seed: u32, size: u32) -> Result<Many<Core, MemDoor>, Memory>
+where
+    R: Threads + Wait + Sync,
+    ensures { IfOk result (λ many. IsServed (λ c. state_of held_in c.live) (λ n. n)
+        (map (λ w. at_end w.door.told w.ended.items w.left w.state) many.workers.items) many.hall) }
+{
+    let posts = posts(alloc, seed, size)?;
+    let sessions = SESSIONS as u64;
+    serve_posts(rt, alloc, "", &[("test", "load")], posts, sessions, 4)
+}
+
+// What is printed of a load; nothing where a session wanted memory, or more was done than is kept.
+fn report(
+    alloc: Global,
+    seed: u32,
+    size: u32,
+    many: &Many<Core, MemDoor>,
+) -> Result<Option<String>, Memory>
+    requires { 0 < length many.now.hall.slots }
+    ensures { IfOk result (λ r. IfSome r (λ text. Reports (λ c. c.tail) seed size
+        (map (λ w. w.ended.items) many.now.workers.items) many.now.hall (string_bytes text))) }
+{
+    if !are_whole(alloc, seed, size, &many.workers)? {
+        return Ok(None);
+    }
+    let limits = Limits::usual();
+    match tally_history(alloc, many.hall.engine(0), &limits)? {
+        Some(tally) => Ok(Some(lines(alloc, &tally)?)),
+        None => Ok(None),
+    }
+}
+
+// Prints what a load left. The status.
+fn print<K: Sink>(
+    alloc: Global,
+    seed: u32,
+    size: u32,
+    many: &Many<Core, MemDoor>,
+    out: &mut K,
+) -> u8
+    requires { 0 < length many.now.hall.slots }
+    ensures { Prints (λ c. c.tail) seed size (map (λ w. w.ended.items) many.now.workers.items)
+        many.now.hall (K.told out.old) (K.told out.new) result }
+{
+    match report(alloc, seed, size, many) {
+        Ok(Some(text)) => match out.put(text.as_bytes()) {
+            Put::Done => 0,
+            Put::Failed => 5,
+        },
+        Ok(None) => 8,
+        Err(Memory) => 8,
+    }
+}
+
+/// Serves the load that the words ask for, `load SEED SIZE`, and prints what it left. Over a table with an
+/// index, four sessions at once insert SIZE documents, update and delete some, and follow them with
+/// feeds. Then four lines are printed: `documents`, how many the table has; `changes`, how many were made;
+/// `feeds`, how many were opened; and `folds`, how many of these were sent changes that lead from what they
+/// opened with to what their query gives.
+///
+/// With other words the status is 2, and nothing is served or printed. What is proved of every session of these plans stands
+/// beside `run` of `reql_run`.
+pub fn load<R, K: Sink>(rt: &R, alloc: Global, words: &[String], out: &mut K) -> Loaded
+where
+    R: Threads + Wait + Sync,
+    ensures { MatchOption result.ended
+        (Unloaded (asks (map string_bytes words.now)) (K.told out.old) (K.told out.new) result.status)
+        (λ many. Loads (λ c. state_of held_in c.live) (λ n. n) (λ c. c.tail)
+        (asks (map string_bytes words.now)) (K.told out.old) (K.told out.new) result.status
+        (map (λ w. at_end w.door.told w.ended.items w.left w.state) many.workers.items) many.hall) }
+{
+    let Command::Load { seed, size } = command_of(words) else {
+        return Loaded {
+            status: 2,
+            ended: None,
+        };
+    };
+    match serve_load(rt, alloc, seed, size) {
+        Ok(many) => Loaded {
+            status: print(alloc, seed, size, &many, out),
+            ended: Some(many),
+        },
+        Err(Memory) => Loaded {
+            status: 8,
+            ended: None,
+        },
+    }
+}

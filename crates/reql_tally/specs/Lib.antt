@@ -1,0 +1,3 @@
+pub mod Past
+pub mod Tallied
+pub mod Views

@@ -1,0 +1,53 @@
+-- What a tally of a history counts.
+use Rattle.std.specs.Prelude.{◌≡◌, ◌≢◌, ℕ, suc, ◌⊎◌, List, [], ◌∷◌, length, map, Option, Some, None, false}
+use Rattle.reql_datum.specs.Plain.{Plain}
+use Rattle.reql_term.specs.Views.{Document}
+use Rattle.reql_shared.specs.Machine.{replay}
+use Rattle.reql_feed_law.specs.Feeds.{value, bare}
+use Rattle.reql_feed_law.specs.Fold.{without_nulls}
+use Rattle.reql_law.specs.Laws.{docs_at}
+use Rattle.reql_law.specs.Machine.{State, machine, unused, entry_of}
+use Rattle.reql_law.specs.Table.{Held, feed_of}
+use Rattle.reql_law.specs.declared.command.Entry.{Entry}
+use Rattle.reql_load.specs.Folded.{folded}
+use Rattle.reql_tail.specs.Kept.{Kept}
+use Rattle.reql_core.specs.declared.moment.Moment.{Moment}
+use Rattle.reql_tally.specs.Past.{OpenedFeed, feeds_opened, batches_taken, sent_to, skips, latest}
+use Rattle.reql_tally.specs.declared.tally.Tally.{Tally}
+
+-- n of the elements are so
+abbrev pub IsCount : {A : Type 0} → (A → Type 0) → List A → ℕ → Type 0
+IsCount P [] n = n ≡ 0
+IsCount P (x ∷ xs) n = ((m : ℕ) × (n ≡ suc m) × P x × IsCount P xs m) ⊎ ((P x → ⊥) × IsCount P xs n)
+
+-- the value of a feed over documents, as a client reads it: null is absence
+abbrev pub value_of : Option Held → List Document → List Plain
+value_of None docs = []
+value_of (Some h) docs = without_nulls (value (feed_of h) docs)
+
+module _ (s : State) (es : List Entry) where
+  -- all that was sent to a feed
+  abbrev pub sent : OpenedFeed → List (ℕ × Plain)
+  sent f = sent_to f.owner f.number (batches_taken s es)
+
+  -- the value of a feed, evaluated over the documents of the history at a stamp
+  abbrev pub value_at : OpenedFeed → ℕ → List Plain
+  value_at f n = value_of f.kept (docs_at s (map entry_of es) n)
+
+  -- the feed was never told that items were dropped, and its items fold over its value at its opening to its value at the last stamp of which they tell,
+  -- or at its opening where none was sent
+  pub record FoldsUp (f : OpenedFeed) : Type 0 where
+    pub whole : skips f.owner f.number (batches_taken s es) ≡ false
+    pub folds : folded (value_at f f.opened) (bare (sent f)) ≡ Some (value_at f (latest f.opened (sent f)))
+
+  -- the documents and the stamp of the table after the history; the feeds that it opened; and those of them that fold
+  pub record Counts (t : Tally) : Type 0 where
+    pub documents : t.documents ≡ length (replay machine s (map entry_of es)).table.docs
+    pub changes : t.changes ≡ (replay machine s (map entry_of es)).table.stamp
+    pub feeds : t.feeds ≡ length (feeds_opened s es)
+    pub folds : IsCount FoldsUp (feeds_opened s es) t.folds
+
+-- none where the base isn't the place 0
+abbrev pub Tallies : ℕ → Kept Moment Entry → Option Tally → Type 0
+Tallies most k None = k.base.place ≢ 0
+Tallies most k (Some t) = Counts (unused most) k.entries t
