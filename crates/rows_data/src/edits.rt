@@ -65,6 +65,18 @@ fn removed(alloc: Global, args: &Items) -> Option<String> {
     format!(in alloc; "{was}, left {after}, copy {copy}").ok()
 }
 
+// Puts a value at a name of an object that is shared.
+fn replaced(alloc: Global, args: &Items) -> Option<String> {
+    let mut fields = edited(alloc, args)?;
+    let shared = fields.copy().ok()?;
+    let key = Name::of(alloc, text(args.at(1)?)?).ok()?;
+    let was = fields.put(key, args.at(2)?.copy().ok()?).ok()?;
+    let was = shown_or_none(alloc, was.as_ref())?;
+    let after = members(alloc, &fields)?;
+    let copy = members(alloc, &shared)?;
+    format!(in alloc; "{was}, now {after}, copy {copy}").ok()
+}
+
 fn push_all(items: &mut Items, more: &Items) -> Result<(), Memory> {
     for item in more.as_slice() {
         items.push(item.copy()?)?;
@@ -84,7 +96,8 @@ fn pushed(alloc: Global, args: &Items) -> Option<String> {
 
 /// Of an object that is made by edits, where [name, value] puts and [name] removes: `edited`, its
 /// type, its depth and whether it may be stored; `edited_shown`, as it is shown, or why not; `member`
-/// at a name; `first_name`; `removed`, what was at a name, what is left, and a copy made before.
+/// at a name; `first_name`; `removed`, what was at a name, what is left, and a copy made before;
+/// `replaced`, the same where a value is put at it.
 /// `pushed` of two lists: one and then the other pushed to a list, with a copy made between.
 pub(crate) fn edit_call(alloc: Global, call: &str, args: &Items) -> Option<String> {
     match call {
@@ -93,6 +106,7 @@ pub(crate) fn edit_call(alloc: Global, call: &str, args: &Items) -> Option<Strin
         "member" => member(alloc, args),
         "first_name" => first_name(alloc, args),
         "removed" => removed(alloc, args),
+        "replaced" => replaced(alloc, args),
         "pushed" => pushed(alloc, args),
         _ => None,
     }

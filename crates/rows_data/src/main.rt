@@ -3,8 +3,8 @@
 //! A line of the input is a row: the name of a call, a space, its arguments, ` => `, and its result.
 //! Empty lines and those that begin with `#` are passed over. The calls are described where they are
 //! answered: JSON in `reading`, numbers, bytes and times in `scalars`, documents in `documents`,
-//! objects and lists under edits in `edits`, bags in `bags`, trees in `trees`, and documents that are
-//! made because they are too large for a line in `sizes`. `read`, `number`, `answered` and `whole`
+//! objects and lists under edits in `edits`, terms under edits in `terms`, bags in `bags`, trees in
+//! `trees`, and documents that are made because they are too large for a line in `sizes`. `read`, `number`, `answered` and `whole`
 //! take the text itself, `laws` a word; all others an array of documents, in which an object of the
 //! one name `minval`, `maxval` or `literal` stands for MINVAL, MAXVAL or a LITERAL. Where nothing is
 //! found, a row says `none`; what is refused is named by its fault.
@@ -19,6 +19,7 @@ mod row;
 mod scalars;
 mod sizes;
 mod spread;
+mod terms;
 mod trees;
 
 use row::Calls;

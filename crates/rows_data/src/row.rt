@@ -6,6 +6,7 @@ use crate::reading::reading_call;
 use crate::scalars::{scalar_call, whole_call};
 use crate::sizes::size_call;
 use crate::spread::spread_call;
+use crate::terms::term_call;
 use crate::trees::tree_call;
 use reql_bag::bag_laws;
 use reql_datum::{Items, order_laws, zone_laws};
@@ -55,6 +56,9 @@ fn made_call(alloc: Global, call: &str, args: &Items) -> Option<String> {
         return Some(told);
     }
     if let Some(told) = spread_call(alloc, call, args) {
+        return Some(told);
+    }
+    if let Some(told) = term_call(alloc, call, args) {
         return Some(told);
     }
     tree_call(alloc, call, args)
