@@ -1,1 +1,2 @@
+mod Halls
 mod Ones

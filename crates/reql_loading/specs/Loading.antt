@@ -55,6 +55,7 @@ ServedWhole script members = (m : Member MemRecord) × (members ≡ m ∷ []) ×
 -- what is printed
 abbrev pub lines : Tally → List ℕ
 lines t = codes "documents " ++ decimal t.documents ++ codes "\nchanges " ++ decimal t.changes ++ codes "\nfeeds " ++ decimal t.feeds ++ codes "\nfolds " ++ decimal t.folds ++ codes "\n"
+
 -- What is printed of a load: each worker served the session of its number, which was whole; and what the table's engine keeps of its history is counted.
 pub record Reports {E NE : Type 0} (kept : E → Kept Moment Entry) (seed size : ℕ) (members : List (List (Member MemRecord))) (hall : Closed E Order State NE CatCmd Catalog) (text : List ℕ) : Type 0 where
   pub whole : (session : ℕ) (ms : List (Member MemRecord)) → session < 5 → ServedWhole (script_of seed size session) (slice_index_or members session ms)

@@ -41,7 +41,8 @@ where
 {
     let posts = posts(alloc, seed, size)?;
     let sessions = SESSIONS as u64;
-    serve_posts(rt, alloc, "", &[("test", "load")], posts, sessions, 4)
+    let many = serve_posts(rt, alloc, "", &[("test", "load")], posts, sessions, 4)?;
+    Ok(many)
 }
 
 // What is printed of a load; nothing where a session wanted memory, or more was done than is kept.

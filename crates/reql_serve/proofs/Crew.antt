@@ -1,5 +1,5 @@
 -- The workers of a server of many sessions, as the program has them.
-use Rattle.std.proofs.Common.{◌≡◌, ℕ, ℤ, ◌<◌, List, length, map, All}
+use Rattle.std.proofs.Common.{◌≡◌, ℕ, ℤ, ◌<◌, List, ◌++◌, length, map, All}
 use Rattle.std.specs.Prelude.{⊤, slice_index_or}
 use Rattle.std.specs.List.{AllZip, range_with_len}
 use Rattle.reql_outside.specs.Source.{Source}
@@ -20,6 +20,7 @@ use Rattle.reql_serve.specs.Serving.{IsLedTo}
 use Rattle.reql_serve.specs.Many.{AtEnd, ServesMany, shares_of, at_end}
 use Rattle.reql_serve.specs.declared.many.Left.{Left}
 use Rattle.reql_serve.specs.declared.worker.Worker.{Worker}
+use Rattle.reql_serve.proofs.InTurn.{of_both}
 use Rattle.reql_serve.proofs.Seating.{zip_weaker, there_weaker}
 use Rattle.reql_serve.proofs.Working.{sits_at, worked_there}
 use Rattle.reql_serve.proofs.Gathering.{all_served, seats_sit, all_there, mids_sit}
@@ -38,6 +39,11 @@ module _ {PL C G D T V L R : Type 0} (k : Talk PL) (some : State) (tape : R → 
   AllWorked hall olds news = (n : ℕ) (w : Worker C G D T V L R) → n < length olds
       → WorkedThere k some tape told rolled hall (slice_index_or olds n w).bench (slice_index_or news n w).bench (door (slice_index_or olds n w).door) (door (slice_index_or news n w).door)
       (slice_index_or olds n w).left (slice_index_or news n w).left (slice_index_or news n w).ended.items (slice_index_or news n w).state
+
+  -- and what both parts of them did
+  pub they_worked : (hall : Rooms State Catalog) (whole front back ends others : List (Worker C G D T V L R)) → whole ≡ front ++ back → length ends ≡ length front
+      → AllWorked hall front ends → AllWorked hall back others → AllWorked hall whole (ends ++ others)
+  they_worked hall = of_both (λ (old new : Worker C G D T V L R). WorkedThere k some tape told rolled hall old.bench new.bench (door old.door) (door new.door) old.left new.left new.ended.items new.state)
 
   abbrev WorkedOn : Rooms State Catalog → Worker C G D T V L R → Worker C G D T V L R → Type 0
   WorkedOn hall old new = AreThere old.bench new.bench (λ (a b : Bench C D T V). Worked k some tape hall a.desk b.desk (outside (told a.clock) (rolled a.dice) (door old.door)) (outside (told b.clock) (rolled b.dice) (door new.door)) old.left new.left new.ended.items new.state)

@@ -1,4 +1,4 @@
-use Rattle.std.proofs.Common.{◌≡◌, ℕ, List, true, sym, subst, ◌∙◌}
+use Rattle.std.proofs.Common.{ℕ, List, sym, subst, ◌∙◌}
 use Rattle.reql_net.specs.declared.memory.MemDoor.{MemDoor}
 use Rattle.reql_outside.specs.declared.memory.MemLink.{MemLink}
 use Rattle.reql_outside.specs.declared.memory.MemRecord.{MemRecord}
