@@ -22,7 +22,7 @@ use Rattle.reql_opening.specs.Opens.{Follows}
 use Rattle.reql_core.specs.Writing.{AreAt, with_feeds}
 use Rattle.reql_core.proofs.Numbers.{same_follows}
 
-same_changed : (key : Plain) (new : Option Plain) (docs : List Document) → value.changed key new docs ≡ set_at key new docs
+pub same_changed : (key : Plain) (new : Option Plain) (docs : List Document) → value.changed key new docs ≡ set_at key new docs
 same_changed key None docs = refl
 same_changed key (Some doc) docs = refl
 

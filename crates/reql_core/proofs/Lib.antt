@@ -6,6 +6,7 @@ mod Subscribed
 mod Numbers
 mod Indexed
 mod Changes
+mod Untold
 mod Written
 mod Fulls
 mod Runs

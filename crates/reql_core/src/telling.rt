@@ -1,11 +1,11 @@
 // Changes of a write are made on a share of the table, and a draft of the feeds is told of each.
-ghost use Rattle.std.specs.Prelude.{◌≡◌, ◌+◌, ◌<◌, ◌^◌, map, length, suc, IfOk};
+ghost use Rattle.std.specs.Prelude.{◌≡◌, ℕ, ◌+◌, ◌<◌, ◌^◌, map, length, suc, IfOk};
 ghost use Rattle.reql_datum.specs.Order.{order};
 ghost use Rattle.reql_memory.specs.Sorted.{AreRisingBy, find_by};
 ghost use Rattle.reql_table.specs.Seen.{documents_of};
 ghost use Rattle.reql_table_machine.specs.Feeds.{notice, after_changes};
 ghost use Rattle.reql_write_law.specs.Laws.{AllCome};
-ghost use Rattle.reql_write_law.specs.Treated.{changed as changed_of};
+ghost use Rattle.reql_write_law.specs.Treated.{changed as changed_of, changed_by};
 ghost use Rattle.reql_law.specs.Table.{feeding};
 ghost use Rattle.reql_feeds.specs.Ahead.{all_ahead};
 ghost use Rattle.reql_feeds.specs.Record.{kept_in, records, AllFit};
@@ -15,13 +15,14 @@ ghost use Rattle.reql_core.specs.Writing.{AreAt, with_feeds};
 use reql_feeds::{Draft, Feeds, feeds_laws};
 use reql_memory::Memory;
 use reql_opening::Opening;
+use reql_ptree::Tree;
 use reql_table::Table;
 use reql_write_law::Change;
 use std::alloc::Global;
 use std::slice;
 
 /// The table after one change.
-pub(crate) fn changed(table: &Table, change: &Change) -> Result<Table, Memory>
+fn changed(table: &Table, change: &Change) -> Result<Table, Memory>
     ensures rising { AreRisingBy order (documents_of table.now) }
     ensures documents { IfOk result (λ t. documents_of t
         ≡ changed_of (documents_of table.now) (told change.now)) }
@@ -95,4 +96,26 @@ pub(crate) fn tell_all<F: Opening>(
         draft = heard;
     }
     Ok((now, draft))
+}
+
+/// The same where no feed is open, of changes that leave these documents.
+pub(crate) fn tell_none<F: Opening>(
+    alloc: Global,
+    feeds: &Feeds<F>,
+    table: &Table,
+    changes: &[Change],
+    documents: Tree,
+) -> Result<(Table, Draft<F>), Memory>
+    requires none { length feeds.now ≡ 0 }
+    requires come { AllCome (documents_of table.now) (map told changes.now) }
+    requires documents { documents ≡ changed_by (documents_of table.now) (map told changes.now) }
+    ensures at { IfOk result (λ r. AreAt F.held F.fits F.reads feeds.now r.0 r.1) }
+    ensures leads { (stamp : ℕ) → IfOk result (λ r. with_feeds r.0 (stamp + length changes.now)
+        (records F.held (all_ahead F.held feeds.now r.1))
+        ≡ after_changes (feeding 0) (with_feeds table.now stamp (records F.held feeds.now))
+        (map told changes.now)) }
+{
+    let after = table.with_changes(changes, documents)?;
+    let draft = feeds.draft(alloc)?;
+    Ok((after, draft))
 }

@@ -6,6 +6,7 @@ ghost use Rattle.reql_table_machine.specs.Fed.{changes_at};
 ghost use Rattle.reql_table_machine.specs.Feeds.{after_changes, one_more};
 ghost use Rattle.reql_table_machine.specs.declared.command.Cmd.TheVariants as known;
 ghost use Rattle.reql_write_law.specs.Laws.{AllCome};
+ghost use Rattle.reql_write_law.specs.Treated.{changed_by};
 ghost use Rattle.reql_write_law.specs.Write.{write};
 ghost use Rattle.reql_law.specs.Engines.{kept_of};
 ghost use Rattle.reql_law.specs.Table.{feeding, at_key};
@@ -16,15 +17,17 @@ ghost use Rattle.reql_core.specs.Live.{table_of, Does};
 ghost use Rattle.reql_core.specs.Writing.{AreAt, with_feeds, landed};
 
 use crate::live::LiveTable;
-use crate::telling::{changed, tell_all};
+use crate::telling::{tell_all, tell_none};
 use reql_feeds::{Draft, feeds_laws};
 use reql_law::{Kept, Said, WriteCmd};
 use reql_memory::Memory;
 use reql_opening::Opening;
+use reql_ptree::Tree;
 use reql_table::Table;
 use reql_write::{Planned, plan_write};
 use reql_write_law::{Change, write_law};
 use std::alloc::Global;
+use std::slice;
 
 /// What a write was answered, and its changes as they are handed over.
 #[derive(Drop)]
@@ -63,9 +66,11 @@ fn kept_list(alloc: Global, changes: &[Change]) -> Result<Vec<Kept>, Memory>
 }
 
 impl<F: Opening> LiveTable<F> {
-    // The table and the feeds as they will be after changes.
-    fn ahead(&self, changes: &[Change]) -> Result<(Table, Draft<F>), Memory>
+    // The table and the feeds as they will be after changes, which leave these documents.
+    fn ahead(&self, changes: &[Change], documents: Tree) -> Result<(Table, Draft<F>), Memory>
         requires come { AllCome (documents_of self.now.moment.table) (map told changes.now) }
+        requires documents { documents
+            ≡ changed_by (documents_of self.now.moment.table) (map told changes.now) }
         requires stamp { self.now.moment.stamp + length changes.now < 2 ^ 64 }
         ensures at { IfOk result (λ r. AreAt F.held F.fits F.reads self.now.feeds r.0 r.1) }
         ensures leads { IfOk result (λ r. with_feeds r.0 (self.now.moment.stamp + length changes.now)
@@ -73,6 +78,15 @@ impl<F: Opening> LiveTable<F> {
             ≡ after_changes (feeding 0) (with_feeds self.now.moment.table self.now.moment.stamp
             (records F.held self.now.feeds)) (map told changes.now)) }
     {
+        if self.feeds.len() == 0 {
+            return tell_none(
+                self.alloc,
+                &self.feeds,
+                &self.moment.table,
+                changes,
+                documents,
+            );
+        }
         tell_all(
             self.alloc,
             &self.feeds,
@@ -97,11 +111,13 @@ impl<F: Opening> LiveTable<F> {
     }
 
     // Lets one change take effect: each feed is told of it as it is.
-    fn land_one(&mut self, change: &Change) -> Result<(), Memory>
+    fn land_one(&mut self, change: &Change, documents: Tree) -> Result<(), Memory>
         requires room { self.old.moment.place + 1 < 2 ^ 64 }
         requires stamp { self.old.moment.stamp + 1 < 2 ^ 64 }
         requires alive { self.old.shut ≡ false }
         requires come { AllCome (documents_of self.old.moment.table) (told change.now ∷ []) }
+        requires documents { documents
+            ≡ changed_by (documents_of self.old.moment.table) (told change.now ∷ []) }
         ensures leaves { OnOk result (table_of F.held self.new ≡ one_more (feeding self.old.most)
             (after_changes (feeding self.old.most) (table_of F.held self.old) (told change.now ∷ []))) }
         ensures place { OnOk result (self.new.moment.place < 2 ^ 64) }
@@ -110,7 +126,10 @@ impl<F: Opening> LiveTable<F> {
         ensures same { OnErr result (self.new ≡ self.old) }
     {
         feeds_laws();
-        let after = changed(&self.moment.table, change)?;
+        let after = self
+            .moment
+            .table
+            .with_changes(slice::from_ref(change), documents)?;
         self.feeds
             .tell_one(self.alloc, change, &after, self.moment.stamp)?;
         self.moment.table = after;
@@ -119,12 +138,14 @@ impl<F: Opening> LiveTable<F> {
         Ok(())
     }
 
-    // Lets changes take effect: a draft of the feeds is told of each first.
-    fn land_many(&mut self, changes: &[Change]) -> Result<(), Memory>
+    // Lets changes take effect, which leave these documents: a draft of the feeds is told of each first.
+    fn land_many(&mut self, changes: &[Change], documents: Tree) -> Result<(), Memory>
         requires room { self.old.moment.place + 1 < 2 ^ 64 }
         requires stamp { self.old.moment.stamp + length changes.now < 2 ^ 64 }
         requires alive { self.old.shut ≡ false }
         requires come { AllCome (documents_of self.old.moment.table) (map told changes.now) }
+        requires documents { documents
+            ≡ changed_by (documents_of self.old.moment.table) (map told changes.now) }
         ensures leaves { OnOk result (table_of F.held self.new ≡ one_more (feeding self.old.most)
             (after_changes (feeding self.old.most) (table_of F.held self.old) (map told changes.now))) }
         ensures place { OnOk result (self.new.moment.place < 2 ^ 64) }
@@ -132,18 +153,20 @@ impl<F: Opening> LiveTable<F> {
         ensures most { self.new.most ≡ self.old.most }
         ensures same { OnErr result (self.new ≡ self.old) }
     {
-        let (table, draft) = self.ahead(changes)?;
+        let (table, draft) = self.ahead(changes, documents)?;
         let stamp = self.stamp() + changes.len() as u64;
         self.become_so(table, draft, stamp)?;
         Ok(())
     }
 
-    // Lets changes take effect.
-    fn land(&mut self, changes: &[Change]) -> Result<(), Memory>
+    // Lets changes take effect, which leave these documents.
+    fn land(&mut self, changes: &[Change], documents: Tree) -> Result<(), Memory>
         requires room { self.old.moment.place + 1 < 2 ^ 64 }
         requires stamp { self.old.moment.stamp + length changes.now < 2 ^ 64 }
         requires alive { self.old.shut ≡ false }
         requires come { AllCome (documents_of self.old.moment.table) (map told changes.now) }
+        requires documents { documents
+            ≡ changed_by (documents_of self.old.moment.table) (map told changes.now) }
         ensures leaves { OnOk result (table_of F.held self.new ≡ one_more (feeding self.old.most)
             (after_changes (feeding self.old.most) (table_of F.held self.old) (map told changes.now))) }
         ensures place { OnOk result (self.new.moment.place < 2 ^ 64) }
@@ -152,8 +175,8 @@ impl<F: Opening> LiveTable<F> {
         ensures same { OnErr result (self.new ≡ self.old) }
     {
         match changes {
-            [change] => self.land_one(change),
-            _ => self.land_many(changes),
+            [change] => self.land_one(change, documents),
+            _ => self.land_many(changes, documents),
         }
     }
 
@@ -166,6 +189,8 @@ impl<F: Opening> LiveTable<F> {
             (documents_of self.old.moment.table) (indexes_of self.old.moment.table) cmd.now).changes }
         requires summary { planned.summary ≡ (write
             (documents_of self.old.moment.table) (indexes_of self.old.moment.table) cmd.now).summary }
+        requires documents { planned.documents
+            ≡ changed_by (documents_of self.old.moment.table) (map told planned.changes.items) }
         ensures does { IfOk result (λ w. Does F.held by (known.Write cmd.now) self.old self.new
             w.said) }
         ensures kept { IfOk result (λ w. map kept_of w.kept.items ≡ map at_key (changes_at
@@ -173,7 +198,11 @@ impl<F: Opening> LiveTable<F> {
         ensures same { OnErr result (self.new ≡ self.old) }
     {
         write_law();
-        let Planned { changes, summary } = planned;
+        let Planned {
+            changes,
+            summary,
+            documents,
+        } = planned;
         if changes.len() as u64 > u64::MAX - self.stamp() {
             return Ok(Wrote {
                 said: Said::HistoryFull { count: u64::MAX },
@@ -181,7 +210,7 @@ impl<F: Opening> LiveTable<F> {
             });
         }
         let kept = kept_list(self.alloc(), &changes)?;
-        self.land(&changes)?;
+        self.land(&changes, documents)?;
         Ok(Wrote {
             said: Said::Done(summary),
             kept,

@@ -7,6 +7,7 @@ mod Turned
 mod Rising
 mod Filing
 mod Listed
+mod Coming
 mod Owned
 pub mod Given
 pub mod Sends

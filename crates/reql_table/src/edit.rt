@@ -1,12 +1,18 @@
 // A table after changes of its documents.
 ghost use Rattle.std.specs.Prelude.{◌≡◌, map, option_map, IfOk};
+ghost use Rattle.std.specs.List.{AllByRecursion};
+ghost use Rattle.reql_memory.specs.Sorted.{AreRisingBy};
+ghost use Rattle.reql_datum.specs.Members.{AreRising};
+ghost use Rattle.reql_datum.specs.Order.{order};
 ghost use Rattle.reql_datum.specs.View.{plain};
+ghost use Rattle.reql_write_law.specs.Laws.{AllCome};
 ghost use Rattle.reql_write_law.specs.Treated.{changed, changed_by};
 ghost use Rattle.reql_table.specs.Edits.{key_at, seen_if, told, turned};
-ghost use Rattle.reql_table.specs.Seen.{documents_of};
+ghost use Rattle.reql_table.specs.Seen.{documents_of, numbered, numbered_of, GivesNumbers, IsFiled};
 ghost use Rattle.reql_table.specs.Trees.{Follows};
 
-use crate::indexes::held;
+use crate::filed::FiledIndex;
+use crate::indexes::{copies_of, held};
 use crate::refile::{Turn, all_refiled};
 use crate::table::Table;
 use reql_datum::{Datum, Memory};
@@ -60,6 +66,17 @@ fn turn_of<'a>(change: &'a Change, old: Option<&'a Datum>) -> Turn<'a>
 }
 
 impl Table {
+    // Its indexes, which share their trees, to write to.
+    fn copied_indexes(&self) -> Result<Vec<FiledIndex>, Memory>
+        ensures indexes { IfOk result (λ is. map numbered is.items ≡ numbered_of self.now) }
+        ensures names { IfOk result (λ is. AreRising (map numbered is.items)) }
+        ensures filed { IfOk result (λ is.
+            AllByRecursion (IsFiled (documents_of self.now)) is.items) }
+        ensures numbers { GivesNumbers self.now }
+    {
+        copies_of(self.alloc, self.all_indexes())
+    }
+
     // The table after a change.
     fn after(&self, change: &Change) -> Result<Table, Memory>
         ensures documents { IfOk result (λ t. documents_of t
@@ -69,7 +86,8 @@ impl Table {
         let mut steps = Steps::start();
         let turn = turn_of(change, self.tree().get(&change.key, &mut steps));
         let documents = documents_after(self.tree(), &turn)?;
-        let indexes = all_refiled(self.alloc, self.all_indexes(), &turn)?;
+        let copies = self.copied_indexes()?;
+        let indexes = all_refiled(self.alloc, copies, &turn)?;
         Ok(Table {
             alloc: self.alloc,
             documents,
@@ -92,6 +110,30 @@ impl Table {
             table = table.after(change)?;
         }
         Ok(Prepared { table })
+    }
+
+    /// The table after changes that come in their order, with the documents that they leave: each
+    /// index as the new documents have it. This table stays as it is.
+    pub fn with_changes(&self, changes: &[Change], documents: Tree) -> Result<Table, Memory>
+        requires come { AllCome (documents_of self.now) (map told changes.now) }
+        requires documents { documents ≡ changed_by (documents_of self.now) (map told changes.now) }
+        ensures rising { AreRisingBy order (documents_of self.now) }
+        ensures documents { IfOk result (λ t. documents_of t
+            ≡ changed_by (documents_of self.now) (map told changes.now)) }
+        ensures indexes { IfOk result (λ t. t.1 ≡ self.now.1) }
+    {
+        let _documents = self.tree();
+        let mut indexes = self.copied_indexes()?;
+        for change in changes {
+            let turn = turn_of(change, change.old.as_ref());
+            indexes = all_refiled(self.alloc, indexes, &turn)?;
+        }
+        Ok(Table {
+            alloc: self.alloc,
+            documents,
+            indexes: held(self.alloc, indexes)?,
+            next: self.next,
+        })
     }
 
     /// Becomes the table that was prepared, which takes no memory.

@@ -56,21 +56,22 @@ fn going(alloc: Global, old: Items, new: &Items) -> Result<Items, Memory>
 }
 
 // The tree of an index after it.
-fn tree_after(alloc: Global, index: &FiledIndex, turn: &Turn<'_>) -> Result<Tree, Memory>
+fn tree_after(alloc: Global, def: &IndexDef, tree: Tree, turn: &Turn<'_>) -> Result<Tree, Memory>
     ensures { (docs : List Document) → AreRising docs
-        → find (key_at turn.now) docs ≡ seen_if turn.now.old → IsFiled docs index.now
-        → IfOk result (λ tree. tree
-        ≡ pairs_of (index_list (turned turn.now docs) (index_of index.now.def))) }
+        → find (key_at turn.now) docs ≡ seen_if turn.now.old
+        → tree ≡ pairs_of (index_list docs (index_of def.now))
+        → IfOk result (λ after. after
+        ≡ pairs_of (index_list (turned turn.now docs) (index_of def.now))) }
 {
-    let old = entries_if(alloc, &index.def, turn.old)?;
-    let mut tree = index.entries.share()?;
+    let old = entries_if(alloc, def, turn.old)?;
+    let mut tree = tree;
     match turn.new {
         None => {
             take_out(alloc, &mut tree, turn.key, &old)?;
             Ok(tree)
         }
         Some(document) => {
-            let new = entries::<Table>(alloc, &index.def, document)?;
+            let new = entries::<Table>(alloc, def, document)?;
             let gone = going(alloc, old, &new)?;
             take_out(alloc, &mut tree, turn.key, &gone)?;
             put_in(alloc, &mut tree, turn.key, document, &new)?;
@@ -79,29 +80,35 @@ fn tree_after(alloc: Global, index: &FiledIndex, turn: &Turn<'_>) -> Result<Tree
     }
 }
 
-fn refiled(alloc: Global, index: &FiledIndex, turn: &Turn<'_>) -> Result<FiledIndex, Memory>
-    ensures numbered { IfOk result (λ i. numbered i ≡ numbered index.now) }
+fn refiled(alloc: Global, index: FiledIndex, turn: &Turn<'_>) -> Result<FiledIndex, Memory>
+    ensures numbered { IfOk result (λ i. numbered i ≡ numbered index) }
     ensures filed { (docs : List Document) → AreRising docs
-        → find (key_at turn.now) docs ≡ seen_if turn.now.old → IsFiled docs index.now
+        → find (key_at turn.now) docs ≡ seen_if turn.now.old → IsFiled docs index
         → IfOk result (IsFiled (turned turn.now docs)) }
 {
+    let FiledIndex {
+        def,
+        number,
+        entries,
+    } = index;
+    let entries = tree_after(alloc, &def, entries, turn)?;
     Ok(FiledIndex {
-        def: index.def.copy()?,
-        number: index.number,
-        entries: tree_after(alloc, index, turn)?,
+        def,
+        number,
+        entries,
     })
 }
 
-/// The indexes after it.
+/// The indexes after it. What nobody shares of their trees is changed in place.
 pub(crate) fn all_refiled(
     alloc: Global,
-    indexes: &[FiledIndex],
+    indexes: Vec<FiledIndex>,
     turn: &Turn<'_>,
 ) -> Result<Vec<FiledIndex>, Memory>
-    ensures numbered { IfOk result (λ is. map numbered is.items ≡ map numbered indexes.now) }
+    ensures numbered { IfOk result (λ is. map numbered is.items ≡ map numbered indexes.items) }
     ensures filed { (docs : List Document) → AreRising docs
         → find (key_at turn.now) docs ≡ seen_if turn.now.old
-        → AllByRecursion (IsFiled docs) indexes.now
+        → AllByRecursion (IsFiled docs) indexes.items
         → IfOk result (λ is. AllByRecursion (IsFiled (turned turn.now docs)) is.items) }
 {
     let mut all = Vec::with_capacity(alloc, indexes.len())?;

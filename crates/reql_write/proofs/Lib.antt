@@ -3,6 +3,7 @@ pub mod Told
 pub mod Keys
 pub mod Objects
 pub mod Acting
+pub mod After
 pub mod Rows
 pub mod Counts
 pub mod Lists

@@ -1,11 +1,11 @@
 // A write planned: its changes and its summary.
-ghost use Rattle.std.specs.Prelude.{◌≡◌, IfOk, map, List};
+ghost use Rattle.std.specs.Prelude.{◌≡◌, [], IfOk, map, List};
 ghost use Rattle.reql_datum.specs.Answer.{Answer};
 ghost use Rattle.reql_datum.specs.Outcome.{Gives, Fails};
 ghost use Rattle.reql_rules.specs.Lists.{joined};
 ghost use Rattle.reql_table.specs.Edits.{told};
 ghost use Rattle.reql_table.specs.Seen.{documents_of, indexes_of};
-ghost use Rattle.reql_write_law.specs.Treated.{Treated as Meant, changes_of};
+ghost use Rattle.reql_write_law.specs.Treated.{Treated as Meant, changes_of, changed_by};
 ghost use Rattle.reql_write_law.specs.Write.{write, treated as treated_of, made_by as made_by_of, errors_in, summed as summed_of, summary_of, all_changes};
 ghost use Rattle.reql_write.specs.Acting.{items_treated};
 ghost use Rattle.reql_write.specs.Seen.{seen};
@@ -17,6 +17,7 @@ use crate::selecting::selected;
 use crate::treated::{Treated, text_of};
 use crate::treating::treat_all;
 use reql_datum::{Fault, Items, Memory};
+use reql_ptree::Tree;
 use reql_table::Table;
 use reql_write_law::{Act, Change, Summary, WriteCmd};
 use std::alloc::Global;
@@ -27,6 +28,8 @@ pub struct Planned {
     /// The changes of the table that the write was planned on, in order.
     pub changes: Vec<Change>,
     pub summary: Summary,
+    /// The documents after them, as a tree that shares what they leave as it is.
+    pub documents: Tree,
 }
 
 // The documents that are inserted, or the primary keys of the rows.
@@ -46,11 +49,14 @@ fn items_of(alloc: Global, table: &Table, cmd: &WriteCmd) -> Result<Items, Fault
     }
 }
 
-// What becomes of each document that the write treats, or the fault of its rows.
+// What becomes of each document that the write treats, with the documents after it, or the fault of
+// its rows.
 #[tactic(auto, using(crate::proofs::Acting::treated_is))]
-fn treat(alloc: Global, table: &Table, cmd: &WriteCmd) -> Result<Vec<Treated>, Fault>
-    ensures { Gives (λ ts. map seen ts.items) result (treated_of cmd.now.key
+fn treat(alloc: Global, table: &Table, cmd: &WriteCmd) -> Result<(Vec<Treated>, Tree), Fault>
+    ensures treated { Gives (λ r. map seen r.0.items) result (treated_of cmd.now.key
         (documents_of table.now) (indexes_of table.now) cmd.now.act) }
+    ensures documents { IfOk result (λ r. r.1 ≡ changed_by (documents_of table.now)
+        (joined (map changes_of (map seen r.0.items)))) }
 {
     let items = items_of(alloc, table, cmd)?;
     let documents = table.documents()?;
@@ -90,13 +96,20 @@ fn summed(alloc: Global, cmd: &WriteCmd, treated: &[Treated]) -> Result<Summary,
     })
 }
 
-fn plan_of(alloc: Global, cmd: &WriteCmd, treated: &[Treated]) -> Result<Planned, Memory>
+fn plan_of(
+    alloc: Global,
+    cmd: &WriteCmd,
+    treated: &[Treated],
+    documents: Tree,
+) -> Result<Planned, Memory>
     ensures changes { IfOk result (λ p. map told p.changes.items
         ≡ joined (map changes_of (map seen treated.now))) }
     ensures summary { IfOk result (λ p. p.summary ≡ summed_of cmd.now.returns
         (made_by_of cmd.now.act) (errors_in (map seen treated.now)) (map seen treated.now)) }
+    ensures documents { IfOk result (λ p. p.documents ≡ documents) }
 {
     Ok(Planned {
+        documents,
         changes: change_list(alloc, treated)?,
         summary: summed(alloc, cmd, treated)?,
     })
@@ -104,13 +117,15 @@ fn plan_of(alloc: Global, cmd: &WriteCmd, treated: &[Treated]) -> Result<Planned
 
 // The write whose rows can't be evaluated: that counts once, and changes nothing.
 #[tactic(auto, using(crate::proofs::Told::told_summary, crate::proofs::Told::told_changes))]
-fn refused(alloc: Global, cmd: &WriteCmd, fault: Fault) -> Result<Planned, Memory>
+fn refused(alloc: Global, table: &Table, cmd: &WriteCmd, fault: Fault) -> Result<Planned, Memory>
     ensures changes { (a : Answer (List Meant)) → Fails fault a
         → IfOk result (λ p. map told p.changes.items ≡ all_changes a) }
     ensures summary { (a : Answer (List Meant)) → Fails fault a
         → IfOk result (λ p. p.summary ≡ summary_of cmd.now.returns (made_by_of cmd.now.act) a) }
+    ensures none { IfOk result (λ p. p.changes.items ≡ []) }
+    ensures documents { IfOk result (λ p. p.documents ≡ documents_of table.now) }
 {
-    let plan = plan_of(alloc, cmd, &[])?;
+    let plan = plan_of(alloc, cmd, &[], table.documents()?)?;
     let first_error = Some(text_of(alloc, fault)?);
     Ok(Planned {
         changes: plan.changes,
@@ -119,6 +134,7 @@ fn refused(alloc: Global, cmd: &WriteCmd, fault: Fault) -> Result<Planned, Memor
             first_error,
             ..plan.summary
         },
+        documents: plan.documents,
     })
 }
 
@@ -132,9 +148,11 @@ pub fn plan_write(alloc: Global, table: &Table, cmd: &WriteCmd) -> Result<Planne
         ≡ (write (documents_of table.now) (indexes_of table.now) cmd.now).changes) }
     ensures summary { IfOk result (λ p. p.summary
         ≡ (write (documents_of table.now) (indexes_of table.now) cmd.now).summary) }
+    ensures documents { IfOk result (λ p. p.documents
+        ≡ changed_by (documents_of table.now) (map told p.changes.items)) }
 {
     match treat(alloc, table, cmd) {
-        Ok(treated) => plan_of(alloc, cmd, treated.as_slice()),
-        Err(fault) => refused(alloc, cmd, fault),
+        Ok((treated, documents)) => plan_of(alloc, cmd, treated.as_slice(), documents),
+        Err(fault) => refused(alloc, table, cmd, fault),
     }
 }

@@ -3,6 +3,7 @@ ghost use Rattle.std.specs.Prelude.{◌≡◌, IfOk, map, option_map};
 ghost use Rattle.reql_memory.specs.Sorted.{find_by, put_by, without_by};
 ghost use Rattle.reql_datum.specs.Order.{order};
 ghost use Rattle.reql_datum.specs.View.{plain};
+ghost use Rattle.reql_rules.specs.Lists.{joined};
 ghost use Rattle.reql_write_law.specs.Treated.{changes_of, changed_by};
 ghost use Rattle.reql_write_law.specs.Treating.{treat_all as treat_all_of};
 ghost use Rattle.reql_write.specs.Acting.{treating};
@@ -85,7 +86,7 @@ fn turn(documents: &mut Tree, treated: &Treated) -> Result<(), Memory>
     }
 }
 
-/// What becomes of each in order, from the documents that were there at the start.
+/// What becomes of each in order, from the documents that were there at the start, and the documents after all.
 #[tactic(auto, using(reql_datum::proofs::Walks::walks))]
 pub(crate) fn treat_all(
     alloc: Global,
@@ -93,9 +94,11 @@ pub(crate) fn treat_all(
     act: &Act,
     items: &Items,
     start: &Tree,
-) -> Result<Vec<Treated>, Memory>
-    ensures { IfOk result (λ ts. map seen ts.items
+) -> Result<(Vec<Treated>, Tree), Memory>
+    ensures treated { IfOk result (λ r. map seen r.0.items
         ≡ treat_all_of (treating field.now act.now) start.now items.now) }
+    ensures documents { IfOk result (λ r. r.1
+        ≡ changed_by start.now (joined (map changes_of (map seen r.0.items)))) }
 {
     let mut documents = start.share()?;
     let mut all = Vec::new(alloc);
@@ -106,5 +109,5 @@ pub(crate) fn treat_all(
         all.push(treated)?;
         place += 1;
     }
-    Ok(all)
+    Ok((all, documents))
 }

@@ -14,6 +14,6 @@ invariant_of-result c =
     let there =
     ap (λ (k : Plain). find k docs) c.turn_of-turn.ensures.key ∙ ap (find (plain c.args.change.now.key)) (sym c.tree.ensures.documents) ∙ sym c.get.ensures.found ∙ sym c.turn_of-turn.ensures.old
     in
-    keeps_turned t docs _ c.all_indexes.result.now c.in_ok-indexes.indexes.items _ (c.documents.view_is ∙ c.in_ok-documents.ensures ∙ ap (turned t) c.tree-2.ensures.documents) c.in_ok-held.ensures
-    c.in_ok-indexes.ensures.numbered c.tree.ensures.rising c.all_indexes.ensures.names (c.in_ok-indexes.ensures.filed docs c.tree.ensures.rising there c.all_indexes.ensures.filed)
-    (numbered_of c.args.self.now) (next_of c.args.self.now) _ c.all_indexes.ensures.indexes (search rules) c.all_indexes.ensures.numbers
+    keeps_turned t docs _ c.in_ok-copies.copies.items c.in_ok-indexes.indexes.items _ (c.documents.view_is ∙ c.in_ok-documents.ensures ∙ ap (turned t) c.tree-2.ensures.documents) c.in_ok-held.ensures
+    c.in_ok-indexes.ensures.numbered c.tree.ensures.rising c.in_ok-copies.ensures.names (c.in_ok-indexes.ensures.filed docs c.tree.ensures.rising there c.in_ok-copies.ensures.filed)
+    (numbered_of c.args.self.now) (next_of c.args.self.now) _ c.in_ok-copies.ensures.indexes (search rules) c.copied_indexes.ensures.numbers

@@ -1,0 +1,19 @@
+-- The documents after those that were treated so far.
+use Rattle.std.proofs.Common.{◌≡◌, List, [], ◌∷◌, ◌++◌, map, refl, sym, ap, ◌∙◌}
+use Rattle.std.proofs.lemmas.List.{append_assoc, append-nil}
+use Rattle.reql_rules.specs.Lists.{joined}
+use Rattle.reql_term.specs.Views.{Document}
+use Rattle.reql_write_law.specs.Treated.{Treated, Changed, changed, changes_of, changed_by}
+
+changed_on : (docs : List Document) (xs ys : List Changed) → changed_by docs (xs ++ ys) ≡ changed_by (changed_by docs xs) ys
+changed_on docs [] ys = refl
+changed_on docs (x ∷ xs) ys = changed_on (changed docs x) xs ys
+
+joined_more : (ts : List Treated) (t : Treated) → joined (map changes_of (ts ++ t ∷ [])) ≡ joined (map changes_of ts) ++ changes_of t
+joined_more [] t = append-nil (changes_of t)
+joined_more (u ∷ ts) t = ap (λ xs. changes_of u ++ xs) (joined_more ts t) ∙ sym (append_assoc (changes_of u) (joined (map changes_of ts)) (changes_of t))
+
+pub after_one : (docs : List Document) (ts : List Treated) (t : Treated) (now after : List Document) → now ≡ changed_by docs (joined (map changes_of ts)) → after ≡ changed_by now (changes_of t)
+    → after ≡ changed_by docs (joined (map changes_of (ts ++ t ∷ [])))
+after_one docs ts t now after is e =
+    e ∙ ap (λ ds. changed_by ds (changes_of t)) is ∙ sym (changed_on docs (joined (map changes_of ts)) (changes_of t)) ∙ ap (changed_by docs) (sym (joined_more ts t))
