@@ -1,5 +1,5 @@
 // Changes of a write are made on a share of the table, and a draft of the feeds is told of each.
-ghost use Rattle.std.specs.Prelude.{◌≡◌, ℕ, ◌+◌, ◌<◌, ◌^◌, map, length, suc, IfOk};
+ghost use Rattle.std.specs.Prelude.{◌≡◌, ℕ, [], ◌∷◌, ◌+◌, ◌<◌, ◌^◌, map, length, suc, IfOk};
 ghost use Rattle.reql_datum.specs.Order.{order};
 ghost use Rattle.reql_memory.specs.Sorted.{AreRisingBy, find_by};
 ghost use Rattle.reql_table.specs.Seen.{documents_of};
@@ -33,6 +33,18 @@ fn changed(table: &Table, change: &Change) -> Result<Table, Memory>
     let prepared = table.prepare(slice::from_ref(change))?;
     after.install(prepared);
     Ok(after)
+}
+
+/// The same of a change that leaves these documents.
+pub(crate) fn changed_to(table: &Table, change: &Change, documents: Tree) -> Result<Table, Memory>
+    requires come { AllCome (documents_of table.now) (told change.now ∷ []) }
+    requires documents { documents ≡ changed_of (documents_of table.now) (told change.now) }
+    ensures rising { AreRisingBy order (documents_of table.now) }
+    ensures documents { IfOk result (λ t. documents_of t
+        ≡ changed_of (documents_of table.now) (told change.now)) }
+    ensures same { IfOk result (λ t. t.1 ≡ table.now.1) }
+{
+    table.with_changes(slice::from_ref(change), documents)
 }
 
 // Makes a change on a table, and tells it to a draft of the feeds.

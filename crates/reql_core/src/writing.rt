@@ -17,7 +17,7 @@ ghost use Rattle.reql_core.specs.Live.{table_of, Does};
 ghost use Rattle.reql_core.specs.Writing.{AreAt, with_feeds, landed};
 
 use crate::live::LiveTable;
-use crate::telling::{tell_all, tell_none};
+use crate::telling::{changed_to, tell_all, tell_none};
 use reql_feeds::{Draft, feeds_laws};
 use reql_law::{Kept, Said, WriteCmd};
 use reql_memory::Memory;
@@ -27,7 +27,6 @@ use reql_table::Table;
 use reql_write::{Planned, plan_write};
 use reql_write_law::{Change, write_law};
 use std::alloc::Global;
-use std::slice;
 
 /// What a write was answered, and its changes as they are handed over.
 #[derive(Drop)]
@@ -126,10 +125,7 @@ impl<F: Opening> LiveTable<F> {
         ensures same { OnErr result (self.new ≡ self.old) }
     {
         feeds_laws();
-        let after = self
-            .moment
-            .table
-            .with_changes(slice::from_ref(change), documents)?;
+        let after = changed_to(&self.moment.table, change, documents)?;
         self.feeds
             .tell_one(self.alloc, change, &after, self.moment.stamp)?;
         self.moment.table = after;

@@ -1,21 +1,17 @@
 -- A selection is evaluated with its one slot; and all keys of a table are those of its whole range.
-use Rattle.std.proofs.Common.{◌≡◌, refl, ap, sym, ◌∙◌, ℕ, nat_eq, length, Bool, true, false, ◌&&◌, if◌then◌else◌, List, [], ◌∷◌, map, Option, Some, None, option_map, Ok}
-use Rattle.std.specs.List.{filter}
+use Rattle.std.proofs.Common.{◌≡◌, refl, ap, sym, ◌∙◌, ℕ, nat_eq, length, true, false, ◌&&◌, if◌then◌else◌, List, [], ◌∷◌, Some, option_map, Ok}
 use Rattle.std.specs.Map.{keys_of}
 use Rattle.std.specs.Ordering.{is_le}
-use Rattle.reql_datum.specs.Answer.{Answer, ◌>>=◌}
 use Rattle.reql_datum.specs.Order.{order}
 use Rattle.reql_datum.specs.Plain.{Plain, low, array, boolean, null, number, object, binary, time, text, high}
-use Rattle.reql_datum.specs.View.{plain}
 use Rattle.reql_memory.proofs.Sorted.{some_inside}
 use Rattle.reql_term.specs.Form.{Form}
 use Rattle.reql_term.specs.Views.{Document, Entry, Index, beside, seen_beside, entries_in, entries_of, entries_between, primary, ranged, values_in}
 use Rattle.reql_term.specs.declared.range.Range.{Range}
 use Rattle.reql_term.specs.declared.view.Entries.{Entries}
 use Rattle.reql_rules.specs.Lists.{Bytes}
-use Rattle.reql_value.specs.Meaning.{value}
-use Rattle.reql_write_law.specs.Selecting.{is_chain, is_selection, slots, selected, row_keys}
-use Rattle.reql_write.specs.Selecting.{world_of, selected_at, SelectsIn, IsWhole}
+use Rattle.reql_write_law.specs.Selecting.{is_chain, is_selection, slots, selected}
+use Rattle.reql_write.specs.Selecting.{selected_at, SelectsIn, IsWhole}
 
 -- ---- the slot
 pub no_chain : (f : Form) → is_chain f ≡ false → is_selection f ≡ false

@@ -1,5 +1,5 @@
 -- The text of a fault is that of what a definition answers.
-use Rattle.std.proofs.Common.{◌≡◌, refl, ap, sym, ◌∙◌, List, [], ◌∷◌, Option, Some, None, Ok, Err}
+use Rattle.std.proofs.Common.{◌≡◌, refl, ap, sym, ◌∙◌, List, [], ◌∷◌, Option, None, Err}
 use Rattle.reql_datum.specs.Answer.{Answer, Reason}
 use Rattle.reql_datum.specs.Outcome.{Fails}
 use Rattle.reql_datum.specs.Plain.{Plain}

@@ -125,16 +125,20 @@ fn refused(alloc: Global, table: &Table, cmd: &WriteCmd, fault: Fault) -> Result
     ensures none { IfOk result (λ p. p.changes.items ≡ []) }
     ensures documents { IfOk result (λ p. p.documents ≡ documents_of table.now) }
 {
-    let plan = plan_of(alloc, cmd, &[], table.documents()?)?;
+    let Planned {
+        changes,
+        summary,
+        documents,
+    } = plan_of(alloc, cmd, &[], table.documents()?)?;
     let first_error = Some(text_of(alloc, fault)?);
     Ok(Planned {
-        changes: plan.changes,
+        changes,
         summary: Summary {
             errors: 1,
             first_error,
-            ..plan.summary
+            ..summary
         },
-        documents: plan.documents,
+        documents,
     })
 }
 
