@@ -23,7 +23,7 @@ module _ (docs : List Document) (cs : List (Plain × Option Plain)) where
   pub no_more : (p to : ℕ) → drop p cs ≡ [] → docs_after docs cs p to ≡ docs
   no_more p to none = ap (λ z. changed_by docs (take (to - p) z)) none ∙ ap (changed_by docs) (take_none (to - p))
     where
-      take_none : (n : ℕ) → take n ([] {A = Plain × Option Plain}) ≡ []
+      take_none : (n : ℕ) → ◌≡◌ {A = List (Plain × Option Plain)} (take n []) []
       take_none zero = refl
       take_none (suc n) = refl
 

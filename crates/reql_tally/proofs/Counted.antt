@@ -1,9 +1,7 @@
 -- One entry more of what is counted.
-use Rattle.std.proofs.Common.{◌≡◌, ◌≤◌, ◌<◌, ◌⊎◌, inl, inr, ◌↔◌, ℕ, suc, ◌+◌, nat_lt, List, [], ◌∷◌, ◌++◌, length, map, drop, Option, Some, None, Bool, true, false, cond, refl, sym, ap, subst, ◌∙◌, arith}
-use Rattle.std.specs.Prelude.{IsTrue}
+use Rattle.std.proofs.Common.{◌≡◌, ◌≤◌, inl, inr, ℕ, suc, ◌+◌, nat_lt, List, [], ◌∷◌, ◌++◌, length, map, drop, Option, Some, None, Bool, true, false, cond, refl, sym, ap, subst, ◌∙◌, arith}
 use Rattle.std.proofs.lemmas.Bool.Decides.{nat_tests}
 use Rattle.reql_datum.specs.Plain.{Plain}
-use Rattle.reql_term.specs.Views.{Document}
 use Rattle.reql_table_machine.proofs.Tracking.{split}
 use Rattle.reql_feed_law.specs.Feeds.{bare}
 use Rattle.reql_law.specs.Laws.{docs_at}
@@ -13,7 +11,7 @@ use Rattle.reql_law.specs.declared.command.Entry.{Entry}
 use Rattle.reql_load.specs.Folded.{folded}
 use Rattle.reql_tally.specs.Past.{OpenedFeed, Sent, feeds_opened, batches_taken, opened_by, sent_to, latest}
 use Rattle.reql_tally.specs.Tallied.{IsCount, FoldsUp, value_of}
-use Rattle.reql_tally.specs.Views.{made, docs_after, FoldsOver, HasOpened, IsTold, IsCounted, LeadsOn, one_fed, one_folds}
+use Rattle.reql_tally.specs.Views.{made, docs_after, FoldsOver, IsTold, IsCounted, LeadsOn, one_fed, one_folds}
 use Rattle.reql_tally.proofs.Histories.{docs_now, docs_then, begins, goes_on}
 
 -- ---- the last stamp is none before the first

@@ -1,6 +1,5 @@
 -- A table to which an entry was given.
-use Rattle.std.proofs.Common.{◌≡◌, ℕ, List, ◌++◌, map, Bool, true, false, refl, sym, ap, subst, ◌∙◌}
-use Rattle.reql_datum.specs.Plain.{Plain}
+use Rattle.std.proofs.Common.{◌≡◌, ℕ, true, false, refl, sym, ap, ◌∙◌}
 use Rattle.reql_table_machine.proofs.Tracking.{split}
 use Rattle.reql_law.specs.Machine.{State, after, reply, is_recorded}
 use Rattle.reql_law.specs.Replies.{Answered}

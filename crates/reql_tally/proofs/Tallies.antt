@@ -1,5 +1,5 @@
 -- What functions find, put together.
-use Rattle.std.proofs.Common.{◌≡◌, ◌↔◌, ◌<◌, ℕ, ◌+◌, ◌-◌, ◌^◌, List, [], ◌∷◌, ◌++◌, length, map, Option, Some, None, Bool, true, false, ◌&&◌, cond, refl, sym, ap, subst, ◌∙◌, arith, append_assoc, append-nil}
+use Rattle.std.proofs.Common.{◌≡◌, ◌↔◌, ℕ, ◌-◌, ◌^◌, List, [], ◌∷◌, ◌++◌, length, map, Option, Some, None, Bool, true, false, ◌&&◌, cond, refl, sym, ap, subst, ◌∙◌, append_assoc, append-nil}
 use Rattle.std.specs.Prelude.{IsTrue}
 use Rattle.std.proofs.lemmas.List.{length-map}
 use Rattle.reql_datum.specs.Plain.{Plain}
@@ -21,9 +21,9 @@ use Rattle.reql_law.specs.declared.command.FeedSpec.{FeedSpec}
 use Rattle.reql_law.specs.declared.command.Order.{Order}
 use Rattle.reql_law.specs.declared.engine.Kept.{Kept}
 use Rattle.reql_load.specs.Folded.{folded}
-use Rattle.reql_tally.specs.Past.{OpenedFeed, Sent, feeds_opened, batches_taken, number_of, opened_as, opened_by, sent_by, sent_to, skips, latest}
+use Rattle.reql_tally.specs.Past.{Sent, feeds_opened, batches_taken, number_of, opened_as, opened_by, sent_by, sent_to, skips, latest}
 use Rattle.reql_tally.specs.Tallied.{Counts, FoldsUp, IsCount, value_of}
-use Rattle.reql_tally.specs.Views.{made, made_by, docs_after, stamped, FoldsOver, HasOpened, IsTold}
+use Rattle.reql_tally.specs.Views.{made, made_by, docs_after, stamped, FoldsOver}
 use Rattle.reql_tally.specs.declared.tally.Tally.{Tally}
 use Rattle.reql_tally.proofs.Histories.{made_next, all_docs, all_stamps}
 

@@ -1,5 +1,5 @@
 -- What the opening items of a feed tell is its value.
-use Rattle.std.proofs.Common.{◌≡◌, ℕ, suc, List, [], ◌∷◌, ◌++◌, filter, flat_map, map, Option, Some, None, Bool, true, false, not, cond, if◌then◌else◌, codes, refl, sym, ap, ◌∙◌}
+use Rattle.std.proofs.Common.{◌≡◌, ℕ, suc, List, [], ◌∷◌, ◌++◌, Option, Some, None, Bool, true, false, not, cond, if◌then◌else◌, codes, refl, sym, ap, ◌∙◌}
 use Rattle.reql_datum.specs.Plain.{Plain, null}
 use Rattle.reql_rules.specs.Types.{is_null}
 use Rattle.reql_bag.specs.Bag.{in_order}

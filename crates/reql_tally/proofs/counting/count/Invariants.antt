@@ -1,4 +1,4 @@
-use Rattle.std.proofs.Common.{◌≡◌, ◌≤◌, ◌++◌, ◌-◌, drop, length}
+use Rattle.std.proofs.Common.{◌≤◌, ◌++◌, ◌-◌, drop, length}
 use Rattle.reql_law.specs.Machine.{unused}
 use Rattle.reql_tally.specs.Past.{feeds_opened}
 use Rattle.reql_tally.specs.Tallied.{FoldsUp}
