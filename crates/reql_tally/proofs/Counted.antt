@@ -111,8 +111,8 @@ counted_next start s all rest e cs bs None m n none is_made is_sent l t c =
     add_none (FoldsUp start all) (feeds_opened start all) (opened_by s e.by e.order.cmd (reply s e.by e.order).said) (feeds_opened (after s e.by e.order) rest) m n t c
 counted_next start s all rest e cs bs (Some true) m n none is_made is_sent l t c =
     let over_history : FoldsOver t.kept s.table.docs (made start all) (batches_taken start all) t.owner t.number s.table.stamp =
-        subst (λ b. FoldsOver t.kept s.table.docs (made start all) b t.owner t.number s.table.stamp) is_sent
-        (subst (λ z. FoldsOver t.kept s.table.docs z bs t.owner t.number s.table.stamp) is_made (t.folds.0 refl)) in
+    subst (λ b. FoldsOver t.kept s.table.docs (made start all) b t.owner t.number s.table.stamp) is_sent
+    (subst (λ z. FoldsOver t.kept s.table.docs z bs t.owner t.number s.table.stamp) is_made (t.folds.0 refl)) in
     add_so (FoldsUp start all) (feeds_opened start all) (opened_by s e.by e.order.cmd (reply s e.by e.order).said) (feeds_opened (after s e.by e.order) rest) m n
     (record { owner = t.owner; number = t.number; kept = t.kept; opened = s.table.stamp }) t.one (up start s all (e ∷ rest) l none t.owner t.number t.kept over_history) c
 counted_next start s all rest e cs bs (Some false) m n none is_made is_sent l t c =

@@ -78,8 +78,8 @@ module _ (start s : State) (all rest : List Entry) (l : LeadsOn start all s rest
   docs_then n le =
       let at_most : (replay machine start (map entry_of l.past)).table.stamp ≤ n = subst (λ (z : State). z.table.stamp ≤ n) l.state le in
       let seen : docs_at start (map entry_of all) n ≡ docs_at s (map entry_of rest) n =
-          ap (λ z. docs_at start (map entry_of z) n) l.parts ∙ ap (λ z. docs_at start z n) (map-append entry_of l.past rest)
-          ∙ later_docs start (map entry_of l.past) (map entry_of rest) n at_most ∙ ap (λ (z : State). docs_at z (map entry_of rest) n) (sym l.state) in
+      ap (λ z. docs_at start (map entry_of z) n) l.parts ∙ ap (λ z. docs_at start z n) (map-append entry_of l.past rest)
+      ∙ later_docs start (map entry_of l.past) (map entry_of rest) n at_most ∙ ap (λ (z : State). docs_at z (map entry_of rest) n) (sym l.state) in
       seen ∙ sym (docs_made s.most s.table.docs (take (n - s.table.stamp) (changes s (map entry_of rest))))
       ∙ ap (λ z. changed_by s.table.docs z) (sym (take-map at_key (n - s.table.stamp) (changes s (map entry_of rest))))
       ∙ ap (λ z. changed_by s.table.docs (take (n - s.table.stamp) z)) (sym to_come)

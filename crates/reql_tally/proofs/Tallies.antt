@@ -60,6 +60,7 @@ skipped kept docs cs bs owner number stamp b is t = (λ h. absurd (differ h), λ
     is_false : Bool → Type 0
     is_false true = ⊥
     is_false false = Unit {0}
+
     differ : false ≡ true → ⊥
     differ h = subst is_false h tt
 
@@ -72,10 +73,13 @@ folds_there kept later docs then_docs cs bs owner number stamp last items openin
   where
     last_is : last ≡ latest stamp (sent_to owner number bs)
     last_is = at ∙ ap (latest stamp) sent
+
     meant : wanted ≡ value_of kept (docs_after docs cs stamp (latest stamp (sent_to owner number bs)))
     meant = wants ∙ ap (λ z. value_of z then_docs) keeps ∙ ap (value_of kept) stands ∙ ap (λ n. value_of kept (docs_after docs cs stamp n)) last_is
+
     without_stamps : map (λ i. plain i.1) items ≡ bare (sent_to owner number bs)
     without_stamps = sym (stamps_off items) ∙ ap bare sent
+
     given : folded opening (map (λ i. plain i.1) items) ≡ folded (value_of kept docs) (bare (sent_to owner number bs))
     given = ap (λ z. folded z (map (λ i. plain i.1) items)) opens ∙ ap (λ z. folded (value_of kept docs) z) without_stamps
 
@@ -95,6 +99,7 @@ gone_opens_none s by order spec is shut =
   where
     next : DocumentTable
     next = one_more (feeding s.most) (effect (feeding s.most) s.table by (known_cmd (cmds.Subscribe spec)))
+
     answered : Bool → Bool
     answered b = adds (feeding s.most) (cond b said.Gone (opens (feeding s.most) s.table (held s.table.indexes spec)))
 

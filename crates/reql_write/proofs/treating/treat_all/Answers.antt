@@ -20,9 +20,10 @@ loop-item-preserved c =
     let more = ap (map seen) pushed ∙ map-append seen ts (t ∷ []) in
     let f = treating c.args.field.now c.args.act.now in
     let left = rest_at c.args.items.now c.loop-item.place (plain c.in-Some.item.now) (search rules) in
-    let here : seen t ≡ f c.loop-item.documents (plain c.in-Some.item.now) = search rules in
-    (ap (λ us. us ++ treat_all_of f c.turn.new.documents (drop (c.loop-item.place + 1) c.args.items.now)) more
-    ∙ treated_on f c.loop-item.documents c.turn.new.documents (plain c.in-Some.item.now) (drop (c.loop-item.place + 1) c.args.items.now) (drop c.loop-item.place c.args.items.now) (map seen ts) (seen t)
-    (treat_all_of f docs c.args.items.now) left here turned c.loop-item.invariant.0,
-    subst (λ us. c.turn.new.documents ≡ changed_by docs (joined (map changes_of us))) (sym more)
-    (after_one docs (map seen ts) (seen t) c.loop-item.documents c.turn.new.documents c.loop-item.invariant.1 turned))
+    let here : seen t ≡ f c.loop-item.documents (plain c.in-Some.item.now) = search rules in (
+      ap (λ us. us ++ treat_all_of f c.turn.new.documents (drop (c.loop-item.place + 1) c.args.items.now)) more
+          ∙ treated_on f c.loop-item.documents c.turn.new.documents (plain c.in-Some.item.now) (drop (c.loop-item.place + 1) c.args.items.now) (drop c.loop-item.place c.args.items.now) (map seen ts) (seen t)
+          (treat_all_of f docs c.args.items.now) left here turned c.loop-item.invariant.0,
+      subst (λ us. c.turn.new.documents ≡ changed_by docs (joined (map changes_of us))) (sym more)
+          (after_one docs (map seen ts) (seen t) c.loop-item.documents c.turn.new.documents c.loop-item.invariant.1 turned),
+    )
