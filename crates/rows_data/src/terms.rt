@@ -76,13 +76,17 @@ fn pushed(alloc: Global, args: &Items) -> Option<String> {
     format!(in alloc; "{} terms, {last} last, copy {}", terms.len(), shared.len()).ok()
 }
 
-// Ids that are there already aren't pushed again.
+// An id that is there already isn't pushed again.
+fn push_new(params: &mut Params, id: u64) -> Option<()> {
+    if params.as_slice().contains(&id) {
+        return Some(());
+    }
+    params.push(id).ok()
+}
+
 fn push_ids(params: &mut Params, more: &Items) -> Option<()> {
     for item in more.as_slice() {
-        let id = u64::try_from(number(item)?).ok()?;
-        if !params.as_slice().contains(&id) {
-            params.push(id).ok()?;
-        }
+        push_new(params, u64::try_from(number(item)?).ok()?)?;
     }
     Some(())
 }
