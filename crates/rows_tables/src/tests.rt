@@ -1,6 +1,6 @@
 use reql_core::{Base, TableCore};
 use reql_datum::{Datum, Fields, Items, Memory, Name, Seq, Whole};
-use reql_law::{Cmd, Keeping, Kept, Limits, Order};
+use reql_law::{Cmd, Keeping, Limits, Order};
 use reql_open_feed::OpenFeed;
 use reql_shared::{Engine, Snap};
 use reql_table::{Change, Table};
@@ -73,54 +73,67 @@ fn give(core: &mut Core, order: Order) -> Result<(), Memory> {
     }
 }
 
-fn base_place(core: &Core) -> u64 {
+// How many entries are kept since the base, and where that is.
+fn kept_since(core: &Core) -> (u64, u64) {
+    let (older, newer) = core.tail();
     let Base {
         place,
         stamp: _,
         table: _,
     } = core.base();
-    place
+    (older.len() as u64 + newer.len() as u64, place)
 }
 
-// How many documents there are, and at which place.
-fn stands(core: &Core) -> Result<(u64, u64), Fail> {
-    let look = core.ask(&Snap)?;
-    let documents = match &look.view {
-        Some(table) => table.documents()?.len(),
-        None => 0,
+// Whether all that may be kept is, or half of it at least since a base that moved, after the command of a key
+// that counts them from 0.
+fn keeps_half(core: &Core, key: i64) -> bool {
+    let Ok(commands) = u64::try_from(key.saturating_add(1)) else {
+        return false;
     };
-    Ok((documents, look.place))
+    let (kept, base) = kept_since(core);
+    let enough = if base == 0 {
+        kept == commands
+    } else {
+        kept >= 2
+    };
+    enough && kept <= u64::from(TAIL) && base.checked_add(kept) == Some(commands)
+}
+
+// Whether so many documents are there, after so many commands.
+fn stands(core: &Core, documents: u64, commands: u64) -> Result<bool, Memory> {
+    let look = core.ask(&Snap)?;
+    match &look.view {
+        Some(table) => Ok(table.documents()?.len() == documents && look.place == commands),
+        None => Ok(false),
+    }
+}
+
+// Inserts ten documents, one a command. Whether what is kept is right after each.
+fn keeps_half_of_each(alloc: Global, core: &mut Core) -> Result<bool, Memory> {
+    let mut right = true;
+    for key in 0..10 {
+        give(core, insert(alloc, key)?)?;
+        right = right && keeps_half(core, key);
+    }
+    Ok(right)
+}
+
+fn short_tail(alloc: Global) -> Result<bool, Memory> {
+    let mut limits = Limits::usual();
+    limits.tail = TAIL;
+    let mut core = Core::new(alloc, &limits)?;
+    let kept = keeps_half_of_each(alloc, &mut core)?;
+    Ok(kept && stands(&core, 10, 10)?)
 }
 
 #[test]
 fn a_tail_keeps_half_of_its_entries_at_least(rt: HostRuntime) -> Result<(), Fail> {
-    let alloc = rt.alloc();
-    let mut limits = Limits::usual();
-    limits.tail = TAIL;
-    let mut core = Core::new(alloc, &limits)?;
-    for key in 0..10 {
-        give(&mut core, insert(alloc, key)?)?;
-        let (older, newer) = core.tail();
-        let kept = older.len() as u64 + newer.len() as u64;
-        let base = base_place(&core);
-        assert!(rt;
-            kept <= u64::from(TAIL) && (base == 0 || kept >= 2),
-            "{kept} entries are kept"
-        );
-        assert_eq!(rt; (base + kept, base), (key as u64 + 1, base));
-    }
-    assert_eq!(rt; stands(&core)?, (10, 10));
+    assert!(rt; short_tail(rt.alloc())?);
     Ok(())
 }
 
-// What a command changed: how many documents, and whether the last of them is gone.
-fn handed(kept: &[Kept]) -> (usize, Option<bool>) {
-    (kept.len(), kept.last().map(|one| one.new.is_none()))
-}
-
-#[test]
-fn a_deletion_is_handed_over_once(rt: HostRuntime) -> Result<(), Fail> {
-    let alloc = rt.alloc();
+// A table that has the document of the key 1 from the start.
+fn table_of_one(alloc: Global) -> Result<Table, Memory> {
     let mut table = Table::new(alloc);
     let change = Change {
         key: number(1),
@@ -129,15 +142,32 @@ fn a_deletion_is_handed_over_once(rt: HostRuntime) -> Result<(), Fail> {
     };
     let prepared = table.prepare(slice::from_ref(&change))?;
     table.install(prepared);
-    let mut core = Core::opened(alloc, table, false, &Limits::usual())?;
-    assert_eq!(rt; stands(&core)?, (1, 0));
+    Ok(table)
+}
+
+// Whether it hands over one change, of a document that is gone.
+fn hands_a_deletion(core: &mut Core) -> bool {
+    let kept = core.take_kept();
+    match kept.as_slice() {
+        [one] => one.new.is_none(),
+        _ => false,
+    }
+}
+
+fn hands_nothing(core: &mut Core) -> bool {
+    core.take_kept().is_empty()
+}
+
+fn deletion(alloc: Global) -> Result<bool, Memory> {
+    let mut core = Core::opened(alloc, table_of_one(alloc)?, false, &Limits::usual())?;
+    let before = stands(&core, 1, 0)?;
     give(&mut core, delete(alloc, 1)?)?;
-    let first = core.take_kept();
-    let second = core.take_kept();
-    assert_eq!(rt;
-        (handed(&first), handed(&second)),
-        ((1, Some(true)), (0, None))
-    );
-    assert_eq!(rt; stands(&core)?, (0, 1));
+    let once = hands_a_deletion(&mut core) && hands_nothing(&mut core);
+    Ok(before && once && stands(&core, 0, 1)?)
+}
+
+#[test]
+fn a_deletion_is_handed_over_once(rt: HostRuntime) -> Result<(), Fail> {
+    assert!(rt; deletion(rt.alloc())?);
     Ok(())
 }
