@@ -2,8 +2,22 @@ use crate::{Command, Refusal, Wanted, command_of};
 use std::alloc::Global;
 use std::test::Fail;
 
+// Words of a load, and what they ask for.
+const LOADS: [(&[&str], &str); 10] = [
+    (&["load", "0", "1"], "load 0 1"),
+    (&["load", "1000000", "20000"], "load 1000000 20000"),
+    (&["load"], "a seed is missing"),
+    (&["load", "7"], "a size is missing"),
+    (&["load", "1000001", "400"], "`1000001` isn't 0 to 1000000"),
+    (&["load", "07", "400"], "`07` isn't 0 to 1000000"),
+    (&["load", "--key", "k"], "`--key` isn't 0 to 1000000"),
+    (&["load", "7", "0"], "`0` isn't 1 to 20000"),
+    (&["load", "7", "20001"], "`20001` isn't 1 to 20000"),
+    (&["load", "7", "400", "--key"], "wrong `--key`"),
+];
+
 // Words, and what they ask for, as `shown` says it.
-const CASES: [(&[&str], &str); 74] = [
+const CASES: [(&[&str], &str); 64] = [
     (&[], "a command is missing"),
     (&["--help"], "help"),
     (&["--help", "stdio"], "wrong `stdio`"),
@@ -83,16 +97,6 @@ const CASES: [(&[&str], &str); 74] = [
     ),
     (&["listen", "--table", "docs"], "wrong `docs`"),
     (&["stdio", "--workers"], "wrong `--workers`"),
-    (&["load", "0", "1"], "load 0 1"),
-    (&["load", "1000000", "20000"], "load 1000000 20000"),
-    (&["load"], "a seed is missing"),
-    (&["load", "7"], "a size is missing"),
-    (&["load", "1000001", "400"], "`1000001` isn't 0 to 1000000"),
-    (&["load", "07", "400"], "`07` isn't 0 to 1000000"),
-    (&["load", "--key", "k"], "`--key` isn't 0 to 1000000"),
-    (&["load", "7", "0"], "`0` isn't 1 to 20000"),
-    (&["load", "7", "20001"], "`20001` isn't 1 to 20000"),
-    (&["load", "7", "400", "--key"], "wrong `--key`"),
     (&["--key", "k", "stdio"], "wrong `--key`"),
     (&["stdio"], "stdio ``"),
     (&["stdio", "docs"], "wrong `docs`"),
@@ -241,6 +245,16 @@ fn words_ask_for_commands_within_their_limits(rt: HostRuntime) -> Result<(), Fai
         let (key, name) = (long(alloc, key)?, long(alloc, name)?);
         let words = many(alloc, &key, &name, tables)?;
         assert!(rt; asked(alloc, &words)?.starts_with(begins), "{begins}");
+    }
+    Ok(())
+}
+
+#[test]
+fn words_ask_for_a_load(rt: HostRuntime) -> Result<(), Fail> {
+    let alloc = rt.alloc();
+    for (words, expected) in LOADS {
+        let words = list(alloc, words)?;
+        assert_eq!(rt; asked(alloc, &words)?.as_str(), expected);
     }
     Ok(())
 }
