@@ -20,7 +20,7 @@ use Rattle.reql_talk.specs.World.{AtWork, Gave, IsServed}
 use Rattle.reql_desk_moves.specs.Acting.{AtDesk}
 use Rattle.reql_session.specs.Settling.{working}
 use Rattle.reql_session.specs.declared.session.Bench.{Bench}
-use Rattle.reql_serve.specs.Working.{Outside, outside, gave_more, left_by, StopsWith, IsThere, AreThere, SitsAt, WorkedThere, IsLifeOf, Follow, ServesNext, Linked, Turns, Worked}
+use Rattle.reql_serve.specs.Working.{Outside, outside, gave_more, left_by, StopsWith, IsThere, AreThere, SitsAt, WorkedThere, IsLifeOf, Follow, ServesNext, Linked, Turns, WorkedSoFar, Worked}
 use Rattle.reql_serve.specs.declared.worker.Member.{Member}
 use Rattle.reql_serve.specs.declared.worker.WorkState.{WorkState}
 use Rattle.reql_serve.specs.declared.worker.WorkState.TheVariants as state
@@ -138,9 +138,9 @@ module _ {PL R : Type 0} (k : Talk PL) (some : State) (tape : R → Tape) where
       let i = idle_turn desk clock dice hall h g old new clock0 clock1 dice0 dice1 door0 door1 before after state.Failed (l.0, l.1, l.2) at (ap (λ (z : AtWork). z.clock) work) (ap (λ (z : AtWork). z.dice) work) n c d s in
       record { sits = i.0; turn = (i.1, i.2, i.3) }
 
-  pub worked_none : (hall : Rooms State Catalog) (desk : AtDesk) (from : Outside) (most left : ℕ) (members : List (Member R)) → left ≡ most → members ≡ [] → Sits hall desk
-      → Worked k some tape hall desk desk from from most left members state.Ready
-  worked_none hall desk from most left members e none s = record {
+  pub none_so_far : (hall : Rooms State Catalog) (desk : AtDesk) (from : Outside) (most left : ℕ) (members : List (Member R)) → left ≡ most → members ≡ [] → Sits hall desk
+      → WorkedSoFar k some tape hall desk desk from from most left members
+  none_so_far hall desk from most left members e none s = record {
     lives = [];
     sits = s;
     serves = serves_none some (ExplainedBy k) desk;
@@ -148,13 +148,12 @@ module _ {PL R : Type 0} (k : Talk PL) (some : State) (tape : R → Tape) where
     numbers = subst (λ ms. All (λ (m : Member R). m.desk ≡ desk.names.number) ms) (sym none) (λ n d lt. absurd (omega (arith, lt)));
     door = ap (λ ms. gave_more (length ms) from.door) (sym none);
     counts = omega (arith, e, ap length none);
-    stops = tt;
   }
 
-  pub worked_more : (hall : Rooms State Catalog) (old mid new : AtDesk) (from via to : Outside) (most left next : ℕ) (before after : List (Member R))
-      → Worked k some tape hall old mid from via most left before state.Ready → Turns k some tape hall mid new via to before after state.Ready → left ≡ next + 1
-      → Worked k some tape hall old new from to most next after state.Ready
-  worked_more hall old mid new from via to most left next before after w t e =
+  pub more_so_far : (hall : Rooms State Catalog) (old mid new : AtDesk) (from via to : Outside) (most left next : ℕ) (before after : List (Member R))
+      → WorkedSoFar k some tape hall old mid from via most left before → Turns k some tape hall mid new via to before after state.Ready → left ≡ next + 1
+      → WorkedSoFar k some tape hall old new from to most next after
+  more_so_far hall old mid new from via to most left next before after w t e =
       let m = t.turn.0 in
       let is : after ≡ before ++ m ∷ [] = t.turn.1 in
       let s = t.turn.2 in
@@ -169,11 +168,10 @@ module _ {PL R : Type 0} (k : Talk PL) (some : State) (tape : R → Tape) where
             (All-push (λ (n : Member R). n.desk ≡ old.names.number) before m w.numbers (s.desk ∙ w.serves.grows.names.number));
         door = s.door ∙ ap (gave_more 1) w.door ∙ gave_twice (length before) from.door ∙ ap (λ n. gave_more n from.door) (sym many);
         counts = omega (arith, w.counts, e, many);
-        stops = tt;
       }
 
   same_end : (hall : Rooms State Catalog) (old mid new : AtDesk) (from via to : Outside) (most left : ℕ) (before after : List (Member R)) (end : WorkState)
-      → Worked k some tape hall old mid from via most left before state.Ready → Sits hall new → after ≡ before → new ≡ mid → to ≡ record via { door = left_by end via.door }
+      → WorkedSoFar k some tape hall old mid from via most left before → Sits hall new → after ≡ before → new ≡ mid → to ≡ record via { door = left_by end via.door }
       → StopsWith end left → Worked k some tape hall old new from to most left after end
   same_end hall old mid new from via to most left before after end w s a n o h = record {
     lives = w.lives;
@@ -188,7 +186,7 @@ module _ {PL R : Type 0} (k : Talk PL) (some : State) (tape : R → Tape) where
 
   -- a turn that was no member's is the last
   pub worked_last : (hall : Rooms State Catalog) (old mid new : AtDesk) (from via to : Outside) (most left : ℕ) (before after : List (Member R)) (end : WorkState)
-      → Worked k some tape hall old mid from via most left before state.Ready → Turns k some tape hall mid new via to before after end → end ≢ state.Ready → 0 < left
+      → WorkedSoFar k some tape hall old mid from via most left before → Turns k some tape hall mid new via to before after end → end ≢ state.Ready → 0 < left
       → Worked k some tape hall old new from to most left after end
   worked_last hall old mid new from via to most left before after state.Ready w t ne lt = absurd (ne refl)
   worked_last hall old mid new from via to most left before after state.Done w t ne lt = absurd t.turn
@@ -198,7 +196,7 @@ module _ {PL R : Type 0} (k : Talk PL) (some : State) (tape : R → Tape) where
 
   -- all of a share was served
   pub worked_all : (hall : Rooms State Catalog) (old new : AtDesk) (from to : Outside) (most left : ℕ) (members : List (Member R))
-      → Worked k some tape hall old new from to most left members state.Ready → left ≡ 0 → Worked k some tape hall old new from to most 0 members state.Done
+      → WorkedSoFar k some tape hall old new from to most left members → left ≡ 0 → Worked k some tape hall old new from to most 0 members state.Done
   worked_all hall old new from to most left members w e = record {
     lives = w.lives;
     sits = w.sits;

@@ -38,9 +38,10 @@ left_by state.Over door = record door { over = true }
 left_by state.Failed door = record door { over = true; broken = true; faults = counted door.faults 1 }
 left_by end door = door
 
--- how many sessions a worker may still serve, which ended so: none where it has served all of its share, and else some
+-- how many sessions a worker may still serve, which ended so: none where it has served all of its share, and else some; it
+-- doesn't end where it may go on
 abbrev pub StopsWith : WorkState → ℕ → Type 0
-StopsWith state.Ready left = Unit {0}
+StopsWith state.Ready left = ⊥
 StopsWith state.Done left = left ≡ 0
 StopsWith end left = 0 < left
 
@@ -106,9 +107,18 @@ module _ {PL R : Type 0} (k : Talk PL) (some : State) (tape : R → Tape) where
     pub sits : Sits hall new
     pub turn : Turn end old new from to before after
 
-  -- All turns of a worker, which had served nobody, and may serve so many: its members are all for whom its desk was used,
-  -- each explained with its part of it, with nothing left; there is one for each link that its door gave; and it ended for this
-  -- reason, with so many left.
+  -- The turns of a worker so far, which had served nobody, and may serve so many: its members are all for whom its desk was
+  -- used, each explained with its part of it, with nothing left; and there is one for each link that its door gave.
+  pub record WorkedSoFar (hall : Rooms State Catalog) (old new : AtDesk) (from to : Outside) (most left : ℕ) (members : List (Member R)) : Type 0 where
+    pub lives : List Life
+    pub sits : Sits hall new
+    pub serves : Serves some (ExplainedBy k) old new lives
+    pub follow : Follow tape from members lives to
+    pub numbers : All (λ (m : Member R). m.desk ≡ old.names.number) members
+    pub door : to.door ≡ gave_more (length members) from.door
+    pub counts : length members + left ≡ most
+
+  -- All turns of a worker: the same, and it ended for this reason, with so many left.
   pub record Worked (hall : Rooms State Catalog) (old new : AtDesk) (from to : Outside) (most left : ℕ) (members : List (Member R)) (end : WorkState) : Type 0 where
     pub lives : List Life
     pub sits : Sits hall new
