@@ -21,3 +21,4 @@ pub mod Answered
 pub mod Preparing
 pub mod Kept
 pub mod Sends
+pub mod Worked

@@ -13,9 +13,11 @@ mod order;
 mod pairs;
 mod printing;
 mod reading;
+mod rows;
 mod search;
 mod threads;
 
 pub use element::{Element, LimitStep, Placed};
 pub use feed::LimitFeed;
 pub use reql_feed_read::{Order, Part};
+pub use rows::worked_rows;
