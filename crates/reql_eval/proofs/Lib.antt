@@ -1,3 +1,4 @@
 pub mod Chains
 pub mod Terms
 pub mod Ways
+pub mod Options
