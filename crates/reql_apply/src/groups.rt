@@ -93,7 +93,7 @@ fn put_first(args: &mut [Arg], first: Arg)
         ≡ shown w first ∷ drop 1 (all_shown w args.old) }
     ensures some { 0 < length args.new }
 {
-    drop(mem::replace(&mut args[0], first));
+    args[0] = first;
 }
 
 // The rule on the members of one group.

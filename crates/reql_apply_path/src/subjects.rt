@@ -15,9 +15,7 @@ ghost use Rattle.reql_operand.specs.Tables.{seen};
 ghost use Rattle.reql_apply_path.specs.Subjects.{seen_subject};
 
 use reql_datum::{Datum, Fault, Items, Memory, Name};
-use reql_operand::{
-    Arg, Value, World, is_nothing, read_range, read_rest, to_sequence, value_of, wrong,
-};
+use reql_operand::{Arg, Value, World, is_nothing, read_range, to_sequence, value_of, wrong};
 use reql_term::TableView;
 use std::alloc::Global;
 
@@ -94,11 +92,6 @@ fn subject_of<V: TableView>(
             slice: _,
             range,
         } => Ok(Subject::Elements(read_range(alloc, world, *slot, range)?)),
-        Value::Rest {
-            slot,
-            range,
-            passed,
-        } => Ok(Subject::Elements(read_rest(alloc, world, *slot, range, *passed)?)),
         Value::Table(_) => Ok(Subject::Elements(to_sequence(alloc, value, world)?)),
         _ => no_subject(alloc, value),
     }

@@ -19,7 +19,6 @@ one_seen w (v.One d) = refl
 one_seen w (v.Stream ds) = refl
 one_seen w (v.Selection n k ds) = refl
 one_seen w (v.Unread n k r) = refl
-one_seen w (v.Rest n r k) = refl
 one_seen w (v.Row n d e) = refl
 one_seen w (v.Table n) = refl
 one_seen w (v.Grouped gs) = refl

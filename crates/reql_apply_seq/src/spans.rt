@@ -77,11 +77,6 @@ fn value_by<V: TableView>(
             rows,
             list: _,
         } => rows_by(alloc, *slot, *rows, name, world),
-        Value::Rest {
-            slot,
-            range: _,
-            passed: _,
-        } => rows_by(alloc, *slot, Rows::InSequence, name, world),
         _ => Err(Fault::QueryLogic(misplaced_order(alloc)?)),
     }
 }

@@ -1,4 +1,3 @@
 pub mod Chains
 pub mod Terms
 pub mod Ways
-pub mod Options

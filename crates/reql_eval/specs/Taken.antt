@@ -1,5 +1,5 @@
 -- Operators by how they take their arguments.
-use Rattle.std.specs.Prelude.{List, [], ◌∷◌, ◌++◌, Bool, if◌then◌else◌, Ok, Err}
+use Rattle.std.specs.Prelude.{List, [], ◌∷◌, Bool, if◌then◌else◌, Ok, Err}
 use Rattle.reql_datum.specs.Answer.{Answer, ◌>>=◌}
 use Rattle.reql_datum.specs.Plain.{null}
 use Rattle.reql_term.specs.declared.role.Way.{Way}
@@ -38,7 +38,3 @@ key_value (s ∷ ss) w vars = out_of_order (value s w vars)
 -- the second argument of DEFAULT, where the first is null
 abbrev pub if_null : Sense → World → Vars → Answer Meant
 if_null s w vars = or_caught (Ok (one null)) (told s w vars null)
-
--- optional arguments with one more
-abbrev pub with_chosen : Way → Bytes → Sense → World → Vars → Options → Answer Options
-with_chosen how name s w vars os = chosen how s w vars >>= λ g. Ok (os ++ (name, g) ∷ [])

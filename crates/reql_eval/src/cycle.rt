@@ -16,9 +16,9 @@ ghost use Rattle.reql_apply.specs.Ruled.{ruled, in_groups};
 ghost use Rattle.reql_sense.specs.Bound.{bound, listed, optional};
 ghost use Rattle.reql_sense.specs.Kinds.{sense_in, given_to};
 ghost use Rattle.reql_sense.specs.Ways.{taken_by, chosen, tail, tail_by, default_of, lazy, lazy_first, either, missing, tested};
-ghost use Rattle.reql_eval.specs.Taken.{applied, taking, key_value, if_null as if_null_of, with_chosen};
+ghost use Rattle.reql_eval.specs.Taken.{applied, taking, key_value, if_null as if_null_of};
 
-use crate::steps::{choose, out_of_order, parameter, put, table, variable};
+use crate::steps::{out_of_order, parameter, table, variable};
 use reql_apply::{Kind, Scalar, at_once, by_groups, kind_of, on_groups};
 use reql_datum::{Datum, Fault, Name};
 use reql_operand::{Arg, Choice, Key, Value, World, misplaced, sized, wrong_count};
@@ -363,31 +363,12 @@ fn eval_options<V: TableView>(
     let mut found = Vec::new(alloc);
     let mut place = 0;
     while let Some((name, term)) = opts.at(place) {
-        add_chosen(alloc, way, name, term, &mut found, world, vars)?;
+        let arg = eval_chosen(alloc, way, term, world, vars)?;
+        let name = name.copy()?;
+        found.push(Choice { name, arg })?;
         place += 1;
     }
     Ok(found)
-}
-
-// Adds an optional argument.
-#[cycle(eval)]
-#[tactic(auto, using(crate::proofs::Options::added, crate::proofs::Options::not_added))]
-fn add_chosen<V: TableView>(
-    alloc: Global,
-    way: Way,
-    name: &Name,
-    term: &Term,
-    found: &mut Vec<Choice>,
-    world: &World<V>,
-    vars: &Vars,
-) -> Result<(), Fault>
-    ensures { let w = seen V.documents V.indexes V.entries world.now in
-        Gives (λ _. all_chosen w found.new.items) result
-        (with_chosen way name.now (sense (form_of term.now)) w (bound vars.now)
-        (all_chosen w found.old.items)) }
-{
-    let arg = eval_chosen(alloc, way, term, world, vars)?;
-    Ok(choose(found, name, arg)?)
 }
 
 // An optional argument.
@@ -702,8 +683,7 @@ fn chain<V: TableView>(
         if ends {
             return Ok(value);
         }
-        let next = eval_term(alloc, term, world, vars)?;
-        put(&mut value, next);
+        value = eval_term(alloc, term, world, vars)?;
     }
     Ok(value)
 }

@@ -1,44 +1,20 @@
 // What no term inside is evaluated for.
-ghost use Rattle.std.specs.Prelude.{◌≡◌, ◌++◌, ◌∷◌, [], IfOk};
+ghost use Rattle.std.specs.Prelude.{[]};
 ghost use Rattle.reql_datum.specs.Answer.{Answer};
 ghost use Rattle.reql_datum.specs.Outcome.{Gives};
 ghost use Rattle.reql_value.specs.Meaning.{bound as bound_to, table_of};
 ghost use Rattle.reql_value.specs.Meant.{Meant};
 ghost use Rattle.reql_value.specs.World.{World as Seen, variable_at, implicit_at};
-ghost use Rattle.reql_operand.specs.Seen.{meant, shown, all_chosen};
+ghost use Rattle.reql_operand.specs.Seen.{meant};
 ghost use Rattle.reql_operand.specs.Tables.{seen};
 ghost use Rattle.reql_sense.specs.Bound.{bound};
 ghost use Rattle.reql_eval.specs.Taken.{out_of_order as out_of_order_of};
 
-use reql_datum::{Fault, Memory, Name};
-use reql_operand::{Arg, Choice, Value, World, misplaced_order, sized, table_at};
+use reql_datum::Fault;
+use reql_operand::{Value, World, misplaced_order, sized, table_at};
 use reql_sense::{Vars, find, implicit};
 use reql_term::TableView;
 use std::alloc::Global;
-use std::mem;
-
-/// Puts a value in the place of another, which goes.
-pub(crate) fn put(place: &mut Value, value: Value)
-    ensures { place.new ≡ value }
-{
-    drop(mem::replace(place, value));
-}
-
-fn add(found: &mut Vec<Choice>, name: Name, arg: Arg) -> Result<(), Memory>
-    ensures { (w : Seen) → IfOk result (λ _. all_chosen w found.new.items
-        ≡ all_chosen w found.old.items ++ (name, shown w arg) ∷ []) }
-{
-    found.push(Choice { name, arg })?;
-    Ok(())
-}
-
-/// Adds an optional argument.
-pub(crate) fn choose(found: &mut Vec<Choice>, name: &Name, arg: Arg) -> Result<(), Memory>
-    ensures { (w : Seen) → IfOk result (λ _. all_chosen w found.new.items
-        ≡ all_chosen w found.old.items ++ (name.now, shown w arg) ∷ []) }
-{
-    add(found, name.copy()?, arg)
-}
 
 /// The value of a variable, within the limits.
 pub(crate) fn variable<V: TableView>(

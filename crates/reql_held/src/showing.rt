@@ -17,7 +17,7 @@ ghost use Rattle.reql_held.specs.Shown.{shown_as, shown_term};
 
 use crate::evaluated::meant_of;
 use reql_datum::{Datum, Fault, Items, Memory, Name};
-use reql_operand::{Group, Rows, Value, World, misplaced, read_range, read_rest, table_at, wrong};
+use reql_operand::{Group, Rows, Value, World, misplaced, read_range, table_at, wrong};
 use reql_term::{TableView, Term};
 use std::alloc::Global;
 
@@ -56,11 +56,6 @@ fn showing_of<V: TableView>(alloc: Global, world: &World<V>, value: Value) -> Re
             slice: _,
             range,
         } => as_sequence(alloc, read_range(alloc, world, slot, &range)?),
-        Value::Rest {
-            slot,
-            range,
-            passed,
-        } => as_sequence(alloc, read_rest(alloc, world, slot, &range, passed)?),
         Value::Row {
             slot: _,
             key: _,

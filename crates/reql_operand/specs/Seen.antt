@@ -1,5 +1,5 @@
 -- What the values of code stand for in a world of tables.
-use Rattle.std.specs.Prelude.{ℕ, List, [], map, drop, Option, Some, None, option_map, Result, Ok, Err}
+use Rattle.std.specs.Prelude.{ℕ, List, [], map, Option, Some, None, option_map, Result, Ok, Err}
 use Rattle.reql_datum.specs.Answer.{Answer, Reason, query_logic, non_existence, resource_limit, op_failed, user, no_text}
 use Rattle.reql_datum.specs.Plain.{Plain}
 use Rattle.reql_datum.specs.View.{plain}
@@ -55,7 +55,6 @@ meant w (v.One d) = m.one (plain d)
 meant w (v.Stream ds) = m.stream ds
 meant w (v.Selection n k ds) = m.selection n (rows k) ds
 meant w (v.Unread n k r) = m.selection n (slice k) (documents_at w n r)
-meant w (v.Rest n r k) = m.selection n m.some_rows (drop k (documents_at w n r))
 meant w (v.Row n d e) = m.row n (plain d) (option_map plain e)
 meant w (v.Table n) = m.table n
 meant w (v.Grouped gs) = m.grouped (map group gs.items)

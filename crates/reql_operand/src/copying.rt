@@ -60,15 +60,6 @@ pub fn copy_value(alloc: Global, value: &Value) -> Result<Value, Memory>
             slice: copy_slice(slice)?,
             range: range.copy()?,
         }),
-        Value::Rest {
-            slot,
-            range,
-            passed,
-        } => Ok(Value::Rest {
-            slot: *slot,
-            range: range.copy()?,
-            passed: *passed,
-        }),
         Value::Row {
             slot,
             key,

@@ -1,5 +1,5 @@
 // Sequences and tables, as values and arguments, and the documents that they have.
-ghost use Rattle.std.specs.Prelude.{◌≡◌, Ok, Err, map, take, drop, is_ok, false, codes};
+ghost use Rattle.std.specs.Prelude.{◌≡◌, Ok, Err, map, is_ok, false, codes};
 ghost use Rattle.reql_datum.specs.Outcome.{Gives};
 ghost use Rattle.reql_datum.specs.View.{plain};
 ghost use Rattle.reql_rules.specs.Types.{wanted, items_in as items_in_of};
@@ -9,7 +9,6 @@ ghost use Rattle.reql_operand.specs.Seen.{meant, shown, documents_at, documents_
 ghost use Rattle.reql_value.specs.World.{World as Seen};
 ghost use Rattle.reql_operand.specs.Tables.{view, seen};
 
-use crate::counted::count_range;
 use crate::texts::type_text;
 use crate::value::{Arg, Value};
 use crate::wanted::{no_value, wrong};
@@ -52,60 +51,6 @@ pub fn read_range<V: TableView>(
         Err(Fault::Memory) => Err(Fault::Memory),
         Err(_) => Ok(Items::new(alloc)),
     }
-}
-
-fn part_in_range<V: TableView>(
-    alloc: Global,
-    table: &Viewed<V>,
-    range: &Range,
-    from: usize,
-    most: usize,
-) -> Result<Items, Fault>
-    ensures { Gives (λ items. items) result (Ok (take most (drop from
-        (documents_of_view range.now (Ok (view V.documents V.indexes V.entries table.now)))))) }
-{
-    match table.view.part(alloc, range, from, most) {
-        Ok(items) => Ok(items),
-        Err(ViewFault::IndexMissing) => Ok(Items::new(alloc)),
-        Err(ViewFault::Memory) => Err(Fault::Memory),
-    }
-}
-
-/// So many documents at most of a range of the table in a slot, from the one at a place on. No
-/// others are read.
-pub fn read_part<V: TableView>(
-    alloc: Global,
-    world: &World<V>,
-    slot: u32,
-    range: &Range,
-    from: usize,
-    most: usize,
-) -> Result<Items, Fault>
-    ensures { Gives (λ items. items) result (Ok (take most (drop from
-        (documents_at (seen V.documents V.indexes V.entries world.now) slot range.now)))) }
-{
-    match table_at(alloc, world, slot) {
-        Ok(table) => part_in_range(alloc, table, range, from, most),
-        Err(Fault::Memory) => Err(Fault::Memory),
-        Err(_) => Ok(Items::new(alloc)),
-    }
-}
-
-/// The documents of a range of the table in a slot, from the one at a place on. Those before it
-/// aren't read.
-#[tactic(auto, using(crate::proofs::Parts::rest_from))]
-pub fn read_rest<V: TableView>(
-    alloc: Global,
-    world: &World<V>,
-    slot: u32,
-    range: &Range,
-    from: usize,
-) -> Result<Items, Fault>
-    ensures { Gives (λ items. items) result (Ok (drop from
-        (documents_at (seen V.documents V.indexes V.entries world.now) slot range.now))) }
-{
-    let size = count_range(alloc, world, slot, range)?;
-    read_part(alloc, world, slot, range, from, size as usize)
 }
 
 /// The items of an array, where a sequence is wanted.
@@ -155,11 +100,6 @@ pub fn to_sequence<V: TableView>(
             slice: _,
             range,
         } => read_range(alloc, world, *slot, range),
-        Value::Rest {
-            slot,
-            range,
-            passed,
-        } => read_rest(alloc, world, *slot, range, *passed),
         Value::Table(slot) => all_documents(alloc, table_at(alloc, world, *slot)?),
         _ => no_sequence(alloc, value),
     }

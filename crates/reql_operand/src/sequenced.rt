@@ -57,15 +57,6 @@ fn alike_value(source: &Value, items: Items) -> Value
             rows: Rows::InSequence,
             list: items,
         },
-        Value::Rest {
-            slot,
-            range: _,
-            passed: _,
-        } => Value::Selection {
-            slot: *slot,
-            rows: Rows::InSequence,
-            list: items,
-        },
         Value::Table(slot) => Value::Selection {
             slot: *slot,
             rows: Rows::InSequence,
@@ -102,15 +93,6 @@ fn ordered_value(source: &Value, items: Items) -> Value
             slot,
             slice: _,
             range: _,
-        } => Value::Selection {
-            slot: *slot,
-            rows: Rows::InArray,
-            list: items,
-        },
-        Value::Rest {
-            slot,
-            range: _,
-            passed: _,
         } => Value::Selection {
             slot: *slot,
             rows: Rows::InArray,

@@ -48,13 +48,6 @@ pub enum Value {
         slice: Slice,
         range: Range,
     },
-    /// The rows of a range of the table in a slot but so many of the first. They haven't been read
-    /// yet.
-    Rest {
-        slot: u32,
-        range: Range,
-        passed: usize,
-    },
     /// The row of a key, where there is one.
     Row {
         slot: u32,

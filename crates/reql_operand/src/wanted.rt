@@ -39,11 +39,6 @@ pub fn type_name(value: &Value) -> &'static str
             Slice::Between(_) => "TABLE_SLICE",
             Slice::InOrder => "TABLE_SLICE",
         },
-        Value::Rest {
-            slot: _,
-            range: _,
-            passed: _,
-        } => "SELECTION<STREAM>",
         Value::Row {
             slot: _,
             key: _,

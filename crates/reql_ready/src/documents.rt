@@ -97,14 +97,6 @@ pub(crate) fn docs_in<V: TableView>(
             let items = to_sequence(alloc, value, world)?;
             all_documents(alloc, &items)
         }
-        Value::Rest {
-            slot: _,
-            range: _,
-            passed: _,
-        } => {
-            let items = to_sequence(alloc, value, world)?;
-            all_documents(alloc, &items)
-        }
         Value::Table(slot) => docs_at(alloc, world, *slot),
         Value::Row {
             slot: _,

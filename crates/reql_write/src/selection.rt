@@ -11,7 +11,7 @@ ghost use Rattle.reql_write.specs.Selecting.{IsWhole};
 
 use crate::members::field_in;
 use reql_datum::{Datum, Fault, Items, Memory, Name};
-use reql_operand::{Value, World, read_range, read_rest};
+use reql_operand::{Value, World, read_range};
 use reql_table::Table;
 use reql_term::{Bound, Range, TableView};
 use std::alloc::Global;
@@ -106,14 +106,6 @@ pub(crate) fn keys_of_value(
             range,
         } => {
             let documents = read_range(alloc, world, *slot, range)?;
-            Ok(keys_in(alloc, field, &documents)?)
-        }
-        Value::Rest {
-            slot,
-            range,
-            passed,
-        } => {
-            let documents = read_rest(alloc, world, *slot, range, *passed)?;
             Ok(keys_in(alloc, field, &documents)?)
         }
         Value::Table(_) => Ok(table_keys(alloc, table)?),

@@ -1,4 +1,4 @@
-use Rattle.std.proofs.Common.{◌≡◌, ◌+◌, ◌∙◌, refl, sym, ap, subst, arith, rules, Ok, Err, map, length, drop}
+use Rattle.std.proofs.Common.{◌≡◌, ◌∙◌, refl, sym, ap, arith, rules, Ok, Err, map, length}
 use Rattle.reql_datum.specs.Answer.{non_existence}
 use Rattle.reql_datum.specs.Plain.{null, text}
 use Rattle.reql_datum.specs.View.{plain}
@@ -39,18 +39,16 @@ chain-returns-in_err-ends g t c =
     let fails = no_stop c.args.at c.args.terms.now c.loop-term.term-index c.term-item.result w (bound c.args.vars.now) (meant w c.loop-term.value) c.in_err-ends.field-0.0 (chain c.args.at (listed c.args.terms.now) w (bound c.args.vars.now) (meant w c.args.found)) c.loop-term-test.true c.term-item.is (c.in_err-ends.ensures w) c.loop-term.invariant in
     search (rules, fails)
 
-pub chain-returns-in_err-next : goal.chain-returns-in_err-next
-chain-returns-in_err-next g t c =
+pub chain-returns-in_err-value : goal.chain-returns-in_err-value
+chain-returns-in_err-value g t c =
     let w = seen g.V.TableView.documents g.V.TableView.indexes g.V.TableView.entries c.args.world.now in
-    let fails = no_next c.args.at c.args.terms.now c.loop-term.term-index c.term-item.result w (bound c.args.vars.now) (meant w c.loop-term.value) c.in_err-next.field-0.0 (chain c.args.at (listed c.args.terms.now) w (bound c.args.vars.now) (meant w c.args.found)) c.loop-term-test.true c.term-item.is (c.in_ok-ends.ensures w ∙ ap Ok c.if-ends.false) c.in_err-next.ensures c.loop-term.invariant in
+    let fails = no_next c.args.at c.args.terms.now c.loop-term.term-index c.term-item.result w (bound c.args.vars.now) (meant w c.loop-term.value) c.in_err-value.field-0.0 (chain c.args.at (listed c.args.terms.now) w (bound c.args.vars.now) (meant w c.args.found)) c.loop-term-test.true c.term-item.is (c.in_ok-ends.ensures w ∙ ap Ok c.if-ends.false) c.in_err-value.ensures c.loop-term.invariant in
     search (rules, fails)
 
 pub chain-loop-term-preserved : goal.chain-loop-term-preserved
 chain-loop-term-preserved g t c =
     let w = seen g.V.TableView.documents g.V.TableView.indexes g.V.TableView.entries c.args.world.now in
-    let all = chain c.args.at (listed c.args.terms.now) w (bound c.args.vars.now) (meant w c.args.found) in
-    subst (λ v. all ≡ chain c.args.at (listed (drop (c.loop-term.term-index + 1) c.args.terms.now)) w (bound c.args.vars.now) (meant w v)) (sym c.put.ensures)
-    (on_next c.args.at c.args.terms.now c.loop-term.term-index c.term-item.result w (bound c.args.vars.now) (meant w c.loop-term.value) (meant w c.in_ok-next.next) all c.loop-term-test.true c.term-item.is (c.in_ok-ends.ensures w ∙ ap Ok c.if-ends.false) c.in_ok-next.ensures c.loop-term.invariant)
+    on_next c.args.at c.args.terms.now c.loop-term.term-index c.term-item.result w (bound c.args.vars.now) (meant w c.loop-term.value) (meant w c.in_ok-value.value) (chain c.args.at (listed c.args.terms.now) w (bound c.args.vars.now) (meant w c.args.found)) c.loop-term-test.true c.term-item.is (c.in_ok-ends.ensures w ∙ ap Ok c.if-ends.false) c.in_ok-value.ensures c.loop-term.invariant
 
 pub default_to-returns-in_ok-misplaced-in_default : goal.default_to-returns-in_ok-misplaced-in_default
 default_to-returns-in_ok-misplaced-in_default g t c =
@@ -94,8 +92,8 @@ eval_lazily-returns-in-empty g t c =
     let w = seen g.V.TableView.documents g.V.TableView.indexes g.V.TableView.entries c.args.world.now in
     gives_as (meant w) _ _ _ (lazy_nothing c.args.way c.args.terms.now w (bound c.args.vars.now) (omega arith)) (c.of_nothing.ensures w)
 
-pub eval_options-add_chosen-requires : goal.eval_options-add_chosen-requires
-eval_options-add_chosen-requires g t c =
+pub eval_options-eval_chosen-requires : goal.eval_options-eval_chosen-requires
+eval_options-eval_chosen-requires g t c =
     let below = named_rest c.args.opts.now c.loop-name.place _ _ _ c.in-Some.ensures.rest in
     grind (arith, below)
 

@@ -65,9 +65,6 @@ decreases-eval_late g l = 16 * weight (form_of l.term.now) + 2
 abbrev pub decreases-eval_chosen : goal.decreases-eval_chosen
 decreases-eval_chosen g l = 16 * weight (form_of l.term.now) + 3
 
-abbrev pub decreases-add_chosen : goal.decreases-add_chosen
-decreases-add_chosen g l = 16 * weight (form_of l.term.now) + 4
-
 abbrev pub decreases-call_term : goal.decreases-call_term
 decreases-call_term g l = 16 * weight (form_of l.term.now) + 2
 
