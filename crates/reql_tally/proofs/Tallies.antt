@@ -1,5 +1,5 @@
 -- What functions find, put together.
-use Rattle.std.proofs.Common.{◌≡◌, ◌↔◌, ℕ, ◌-◌, ◌^◌, List, [], ◌∷◌, ◌++◌, length, map, Option, Some, None, Bool, true, false, ◌&&◌, cond, refl, sym, ap, subst, ◌∙◌, append_assoc, append-nil}
+use Rattle.std.proofs.Common.{◌≡◌, ◌↔◌, ℕ, ◌-◌, ◌^◌, nat_eq, inl, inr, List, [], ◌∷◌, ◌++◌, length, map, Option, Some, None, Bool, true, false, ◌&&◌, cond, refl, sym, ap, subst, ◌∙◌, append_assoc, append-nil}
 use Rattle.std.specs.Prelude.{IsTrue}
 use Rattle.std.proofs.lemmas.List.{length-map}
 use Rattle.reql_datum.specs.Plain.{Plain}
@@ -22,8 +22,10 @@ use Rattle.reql_law.specs.declared.command.Order.{Order}
 use Rattle.reql_law.specs.declared.engine.Kept.{Kept}
 use Rattle.reql_load.specs.Folded.{folded}
 use Rattle.reql_tally.specs.Past.{Sent, feeds_opened, batches_taken, number_of, opened_as, opened_by, sent_by, sent_to, skips, latest}
-use Rattle.reql_tally.specs.Tallied.{Counts, FoldsUp, IsCount, value_of}
-use Rattle.reql_tally.specs.Views.{made, made_by, docs_after, stamped, FoldsOver}
+use Rattle.reql_tally.specs.Tallied.{Counts, FoldsUp, IsCount, value_of, stands, Ends}
+use Rattle.reql_tally.specs.Views.{made, made_by, docs_after, stamped, FoldsOver, IsTable}
+use Rattle.reql_table.specs.Seen.{documents_of}
+use Rattle.reql_tally.specs.declared.replica.SeenTable.{SeenTable}
 use Rattle.reql_tally.specs.declared.tally.Tally.{Tally}
 use Rattle.reql_tally.proofs.Histories.{made_next, all_docs, all_stamps}
 
@@ -122,3 +124,14 @@ counts most es cs t is documents changes feeds folds = record {
   feeds = feeds;
   folds = folds;
 }
+
+-- ---- where the table stands
+pub ends_dropped : (s : State) (t : Tally) → s.table.shut ≡ true → Ends s t false
+ends_dropped s t h = inl h
+
+there : (s : State) (t : Tally) (v : SeenTable) → IsTable s v → (nat_eq t.documents (length (documents_of v.table)) && nat_eq t.changes v.stamp) ≡ stands s t
+there s t v is = λ i. nat_eq t.documents (length (is.docs i)) && nat_eq t.changes (is.stamp i)
+
+pub ends_at : (s : State) (t : Tally) (v : SeenTable) (b : Bool) → IsTable s v → b ≡ (nat_eq t.documents (length (documents_of v.table)) && nat_eq t.changes v.stamp) → Ends s t b
+ends_at s t v true is h = sym (h ∙ there s t v is)
+ends_at s t v false is h = inr (sym (h ∙ there s t v is))

@@ -1,5 +1,5 @@
 -- What a tally of a history counts.
-use Rattle.std.specs.Prelude.{◌≡◌, ◌≢◌, ℕ, suc, ◌⊎◌, List, [], ◌∷◌, length, map, Option, Some, None, false}
+use Rattle.std.specs.Prelude.{◌≡◌, ℕ, suc, nat_eq, ◌⊎◌, List, [], ◌∷◌, length, map, Option, Some, None, Bool, true, false, ◌&&◌}
 use Rattle.reql_datum.specs.Plain.{Plain}
 use Rattle.reql_term.specs.Views.{Document}
 use Rattle.reql_shared.specs.Machine.{replay}
@@ -10,6 +10,7 @@ use Rattle.reql_law.specs.Machine.{State, machine, unused, entry_of}
 use Rattle.reql_law.specs.Table.{Held, feed_of}
 use Rattle.reql_law.specs.declared.command.Entry.{Entry}
 use Rattle.reql_load.specs.Folded.{folded}
+use Rattle.reql_table.specs.Seen.{Standing, documents_of, indexes_of}
 use Rattle.reql_tail.specs.Kept.{Kept}
 use Rattle.reql_core.specs.declared.moment.Moment.{Moment}
 use Rattle.reql_tally.specs.Past.{OpenedFeed, feeds_opened, batches_taken, sent_to, skips, latest}
@@ -47,7 +48,32 @@ module _ (s : State) (es : List Entry) where
     pub feeds : t.feeds ≡ length (feeds_opened s es)
     pub folds : IsCount FoldsUp (feeds_opened s es) t.folds
 
--- none where the base isn't the place 0
-abbrev pub Tallies : ℕ → Kept Moment Entry → Option Tally → Type 0
-Tallies most k None = k.base.place ≢ 0
-Tallies most k (Some t) = Counts (unused most) k.entries t
+-- a table at place 0 that has neither documents nor indexes
+abbrev pub is_empty : Standing → Bool
+is_empty t = nat_eq (length (documents_of t)) 0 && nat_eq (length (indexes_of t)) 0
+
+abbrev pub begins : Moment → Bool
+begins m = (nat_eq m.place 0 && nat_eq m.stamp 0) && is_empty m.table
+
+-- the table stands where it was counted to
+abbrev pub stands : State → Tally → Bool
+stands s t = nat_eq t.documents (length s.table.docs) && nat_eq t.changes s.table.stamp
+
+-- whether it does, unless it was dropped
+abbrev pub Ends : State → Tally → Bool → Type 0
+Ends s t true = stands s t ≡ true
+Ends s t false = (s.table.shut ≡ true) ⊎ (stands s t ≡ false)
+
+-- What is kept begins with an empty table, and its entries count to this, where the table stands.
+pub record Found (most : ℕ) (k : Kept Moment Entry) (s : State) (t : Tally) : Type 0 where
+  pub begins : begins k.base ≡ true
+  pub counts : Counts (unused most) k.entries t
+  pub stands : stands s t ≡ true
+
+-- What is kept doesn't begin so; or the table was dropped, or isn't where the entries count to.
+abbrev pub HasNone : ℕ → Kept Moment Entry → State → Type 0
+HasNone most k s = (begins k.base ≡ false) ⊎ ((t : Tally) × Counts (unused most) k.entries t × Ends s t false)
+
+abbrev pub Tallies : ℕ → Kept Moment Entry → State → Option Tally → Type 0
+Tallies most k s None = HasNone most k s
+Tallies most k s (Some t) = Found most k s t

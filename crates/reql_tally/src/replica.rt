@@ -6,6 +6,7 @@ ghost use Rattle.reql_law.specs.Engines.{kept_of, seen_in};
 ghost use Rattle.reql_law.specs.Machine.{State, after, reply, seen, unused, known_cmd};
 ghost use Rattle.reql_law.specs.Replies.{said_of};
 ghost use Rattle.reql_law.specs.Table.{feeding, at_key};
+ghost use Rattle.reql_core.specs.Live.{state_of};
 ghost use Rattle.reql_tally.specs.Views.{IsSeen};
 
 use crate::copies::copied;
@@ -66,6 +67,15 @@ fn table_in(look: Look<Table>) -> Option<SeenTable>
     }
 }
 
+/// Looks at the table of an engine, if it wasn't dropped.
+pub(crate) fn looked<F: Opening>(engine: &TableCore<F>) -> Result<Option<SeenTable>, Memory>
+    ensures { IfOk result (IsSeen (state_of F.held engine.now.live)) }
+{
+    let look = engine.ask(&Snap)?;
+    let seen = table_in(look);
+    Ok(seen)
+}
+
 impl<F: Opening> Replica<F> {
     /// An empty table that nobody has used.
     pub(crate) fn new(alloc: Global, limits: &Limits) -> Result<Replica<F>, Memory>
@@ -101,8 +111,6 @@ impl<F: Opening> Replica<F> {
     pub(crate) fn look(&self) -> Result<Option<SeenTable>, Memory>
         ensures { IfOk result (IsSeen self.now) }
     {
-        let look = self.core.ask(&Snap)?;
-        let seen = table_in(look);
-        Ok(seen)
+        looked(&self.core)
     }
 }

@@ -2,16 +2,20 @@
 ghost use Rattle.std.specs.Prelude.{◌≡◌, ◌≤◌, [], ◌++◌, map, length, IfOk};
 ghost use Rattle.reql_feed_law.specs.Feeds.{changed_by};
 ghost use Rattle.reql_law.specs.Engines.{kept_of};
-ghost use Rattle.reql_law.specs.Machine.{unused};
-ghost use Rattle.reql_tally.specs.Tallied.{Counts, Tallies};
+ghost use Rattle.reql_law.specs.Machine.{State, unused};
+ghost use Rattle.reql_core.specs.Live.{state_of};
+ghost use Rattle.reql_tally.specs.Tallied.{Counts, Ends, Tallies, begins as begins_of, is_empty as is_empty_of};
+ghost use Rattle.reql_tally.specs.Views.{IsTable};
 
 use crate::advancing::advanced;
 use crate::counting::count;
 use crate::hearing::hear;
+use crate::replica::{SeenTable, looked};
 use reql_core::{Base, Opening, TableCore};
 use reql_law::{Entry, Kept, Limits};
 use reql_memory::Memory;
 use reql_table::Table;
+use reql_term::TableView;
 use std::alloc::Global;
 
 /// What the sessions of a table left in its history.
@@ -57,26 +61,68 @@ fn tally_of<F: Opening>(
     })
 }
 
+// Whether a table has neither documents nor indexes.
+fn is_empty(alloc: Global, table: &Table) -> Result<bool, Memory>
+    ensures { IfOk result (λ b. b ≡ is_empty_of table.now) }
+{
+    let documents = table.documents()?;
+    let names = table.names(alloc)?;
+    Ok(documents.len() == 0 && names.len() == 0)
+}
+
+// Whether a base is that of a history that began with an empty table.
+fn begins(alloc: Global, place: u64, stamp: u64, table: &Table) -> Result<bool, Memory>
+    ensures { IfOk result (λ b. b
+        ≡ begins_of (record { table = table.now; place = place; stamp = stamp })) }
+{
+    let is_empty = is_empty(alloc, table)?;
+    Ok(place == 0 && stamp == 0 && is_empty)
+}
+
+// Whether a table stands where it was counted to.
+#[tactic(auto, using(crate::proofs::Tallies::ends_at))]
+fn is_there(seen: &SeenTable, tally: &Tally) -> Result<bool, Memory>
+    ensures { (s : State) → IsTable s seen.now → IfOk result (Ends s tally.now) }
+{
+    let documents = seen.table.documents()?;
+    Ok(tally.documents == documents.len() && tally.changes == seen.stamp)
+}
+
+// Whether the table of an engine does.
+#[tactic(auto, using(crate::proofs::Tallies::ends_dropped))]
+fn stands<F: Opening>(engine: &TableCore<F>, tally: &Tally) -> Result<bool, Memory>
+    ensures { IfOk result (Ends (state_of F.held engine.now.live) tally.now) }
+{
+    match looked(engine)? {
+        Some(seen) => is_there(&seen, tally),
+        None => Ok(false),
+    }
+}
+
 /// Counts what the sessions of a table left in its history, which began with an empty table: its
-/// entries are given to a table of the same limits again. None where the engine no longer keeps its
-/// first entries.
+/// entries are given to a table of the same limits again, and lead where the table stands. None where
+/// the engine no longer keeps its first entries, or the table was dropped.
 pub fn tally_history<F: Opening>(
     alloc: Global,
     engine: &TableCore<F>,
     limits: &Limits,
 ) -> Result<Option<Tally>, Memory>
     requires { 2 ≤ limits.now.tail }
-    ensures { IfOk result (Tallies limits.now.feeds engine.now.tail) }
+    ensures { IfOk result (Tallies limits.now.feeds engine.now.tail
+        (state_of F.held engine.now.live)) }
 {
     let Base {
         place,
-        stamp: _,
-        table: _,
+        stamp,
+        table,
     } = engine.base();
-    if place != 0 {
+    if !begins(alloc, place, stamp, table)? {
         return Ok(None);
     }
     let (older, newer) = engine.tail();
     let tally = tally_of::<F>(alloc, older, newer, limits)?;
+    if !stands(engine, &tally)? {
+        return Ok(None);
+    }
     Ok(Some(tally))
 }
