@@ -1,5 +1,5 @@
 -- What a load promises, by the words and the sink that it is handed.
-use Rattle.std.specs.Prelude.{◌≡◌, ◌<◌, ◌⊎◌, ℕ, Bool, false, ◌||◌, ◌==◌, List, [], ◌∷◌, ◌++◌, length, map, All, Some, codes, decimal, slice_index_or}
+use Rattle.std.specs.Prelude.{◌≡◌, ◌<◌, ◌⊎◌, ℕ, Bool, false, ◌||◌, ◌==◌, List, [], ◌∷◌, ◌++◌, length, map, All, codes, decimal, slice_index_or}
 use Rattle.std.specs.List.{starts_with}
 use Rattle.reql_outside.specs.Played.{tape_of}
 use Rattle.reql_outside.specs.Written.{Written, Puts}
@@ -22,9 +22,9 @@ use Rattle.reql_serve.specs.Working.{Outside}
 use Rattle.reql_serve.specs.declared.worker.Member.{Member}
 use Rattle.reql_words.specs.Words.{Asks, Load}
 use Rattle.reql_load.specs.Script.{script_of}
-use Rattle.reql_tally.specs.Tallied.{Tallies}
+use Rattle.reql_tally.specs.Tallied.{Found}
 use Rattle.reql_tally.specs.declared.tally.Tally.{Tally}
-use Rattle.reql_run.specs.Listening.{AreServed, IsFreshPost}
+use Rattle.reql_run.specs.Listening.{AreServed, IsFreshPost, IsSoundPost}
 
 -- the table of a load, in the first slot
 abbrev pub tables : List (List ℕ × List ℕ)
@@ -35,6 +35,7 @@ pub record IsServed {E NE : Type 0} (state : E → State) (known : NE → Catalo
   pub posts : List Outside
   pub five : length posts ≡ 5
   pub fresh : All IsFreshPost posts
+  pub sound : All IsSoundPost posts
   pub served : AreServed state known tape_of [] tables posts 5 workers hall
 
 -- some bytes stand among others
@@ -42,11 +43,20 @@ abbrev pub has_part : List ℕ → List ℕ → Bool
 has_part part [] = false
 has_part part (b ∷ bs) = starts_with (λ x y. x == y) (b ∷ bs) part || has_part part bs
 
--- A session was given these bytes and closed, and was sent no answer that memory was wanted.
+-- how an answer ends that refuses a request or tells a fault
+abbrev pub refusals : List (List ℕ)
+refusals = codes "\"t\":16}" ∷ codes "\"t\":17}" ∷ codes "\"t\":18}" ∷ []
+
+abbrev pub has_any : List (List ℕ) → List ℕ → Bool
+has_any [] bs = false
+has_any (part ∷ parts) bs = has_part part bs || has_any parts bs
+
+-- A session was given these bytes and closed, and was sent no answer that memory was wanted, and none that refuses a request.
 pub record IsWhole (script : List ℕ) (m : Member MemRecord) : Type 0 where
   pub given : m.served.tape.given.items ≡ script
   pub closed : m.served.end ≡ ends.Closed
   pub sent : has_part (body internal) m.served.tape.sent.items ≡ false
+  pub served : has_any refusals m.served.tape.sent.items ≡ false
 
 -- a worker served one session, which was whole
 abbrev pub ServedWhole : List ℕ → List (Member MemRecord) → Type 0
@@ -56,18 +66,19 @@ ServedWhole script members = (m : Member MemRecord) × (members ≡ m ∷ []) ×
 abbrev pub lines : Tally → List ℕ
 lines t = codes "documents " ++ decimal t.documents ++ codes "\nchanges " ++ decimal t.changes ++ codes "\nfeeds " ++ decimal t.feeds ++ codes "\nfolds " ++ decimal t.folds ++ codes "\n"
 
--- What is printed of a load: each worker served the session of its number, which was whole; and what the table's engine keeps of its history is counted.
-pub record Reports {E NE : Type 0} (kept : E → Kept Moment Entry) (seed size : ℕ) (members : List (List (Member MemRecord))) (hall : Closed E Order State NE CatCmd Catalog) (text : List ℕ) : Type 0 where
+-- What is printed of a load: each worker served the session of its number, which was whole; and what the table's engine keeps of its history is
+-- counted, from the empty table on to where it stands.
+pub record Reports {E NE : Type 0} (state : E → State) (kept : E → Kept Moment Entry) (seed size : ℕ) (members : List (List (Member MemRecord))) (hall : Closed E Order State NE CatCmd Catalog) (text : List ℕ) : Type 0 where
   pub whole : (session : ℕ) (ms : List (Member MemRecord)) → session < 5 → ServedWhole (script_of seed size session) (slice_index_or members session ms)
   pub tally : Tally
-  pub counted : (f : Closing E Order State) → Tallies usual_limits.feeds (kept (slice_index_or hall.slots 0 f).engine) (Some tally)
+  pub counted : (f : Closing E Order State) → Found usual_limits.feeds (kept (slice_index_or hall.slots 0 f).engine) (state (slice_index_or hall.slots 0 f).engine) tally
   pub printed : text ≡ lines tally
 
--- It is printed whole, or the sink fails; or a session wanted memory, or to count did, and nothing is printed.
-abbrev pub Prints : {E NE : Type 0} → (E → Kept Moment Entry) → ℕ → ℕ → List (List (Member MemRecord)) → Closed E Order State NE CatCmd Catalog → Written → Written → ℕ → Type 0
-Prints kept seed size members hall old new status =
-    ((status ≡ 0) × (text : List ℕ) × Reports kept seed size members hall text × Puts old new text put.Done)
-    ⊎ (((status ≡ 5) × (text : List ℕ) × Reports kept seed size members hall text × Puts old new text put.Failed)
+-- It is printed whole, or the sink fails; or nothing is printed, since a session was not whole, or there is nothing to count, or memory was wanted.
+abbrev pub Prints : {E NE : Type 0} → (E → State) → (E → Kept Moment Entry) → ℕ → ℕ → List (List (Member MemRecord)) → Closed E Order State NE CatCmd Catalog → Written → Written → ℕ → Type 0
+Prints state kept seed size members hall old new status =
+    ((status ≡ 0) × (text : List ℕ) × Reports state kept seed size members hall text × Puts old new text put.Done)
+    ⊎ (((status ≡ 5) × (text : List ℕ) × Reports state kept seed size members hall text × Puts old new text put.Failed)
     ⊎ ((status ≡ 8) × (new ≡ old)))
 
 -- The words ask for a load, its sessions were served, and this is what was printed of them.
@@ -76,7 +87,7 @@ pub record Loads {E NE : Type 0} (state : E → State) (known : NE → Catalog) 
   pub size : ℕ
   pub asks : asked ≡ Load seed size
   pub served : IsServed state known workers hall
-  pub prints : Prints kept seed size (map (λ (w : AtEnd MemRecord). w.ended) workers) hall old new status
+  pub prints : Prints state kept seed size (map (λ (w : AtEnd MemRecord). w.ended) workers) hall old new status
 
 -- No session is served, and nothing is printed: the words ask for no load, or memory was wanted.
 abbrev pub Unloaded : Asks → Written → Written → ℕ → Type 0

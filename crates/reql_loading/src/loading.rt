@@ -25,7 +25,7 @@ use std::thread::Threads;
 #[derive(Drop)]
 pub struct Loaded {
     /// 0: what the sessions left was counted, and printed. 2: the words ask for no load. 5: the sink
-    /// failed. 8: memory was wanted, by a session or to count.
+    /// failed. 8: memory was wanted, by a session or to count; or a session was not served whole.
     pub status: u8,
     /// The sessions, by the desks at which they were served, and the hall with its whole histories.
     /// None with the status 2, and where memory was wanted to begin with.
@@ -45,7 +45,7 @@ where
     Ok(many)
 }
 
-// What is printed of a load; nothing where a session wanted memory, or more was done than is kept.
+// What is printed of a load; nothing where a session was not served whole, or more was done than is kept.
 fn report(
     alloc: Global,
     seed: u32,
@@ -53,7 +53,7 @@ fn report(
     many: &Many<Core, MemDoor>,
 ) -> Result<Option<String>, Memory>
     requires { 0 < length many.now.hall.slots }
-    ensures { IfOk result (λ r. IfSome r (λ text. Reports (λ c. c.tail) seed size
+    ensures { IfOk result (λ r. IfSome r (λ text. Reports (λ c. state_of held_in c.live) (λ c. c.tail) seed size
         (map (λ w. w.ended.items) many.now.workers.items) many.now.hall (string_bytes text))) }
 {
     if !are_whole(alloc, seed, size, &many.workers)? {
@@ -75,7 +75,7 @@ fn print<K: Sink>(
     out: &mut K,
 ) -> u8
     requires { 0 < length many.now.hall.slots }
-    ensures { Prints (λ c. c.tail) seed size (map (λ w. w.ended.items) many.now.workers.items)
+    ensures { Prints (λ c. state_of held_in c.live) (λ c. c.tail) seed size (map (λ w. w.ended.items) many.now.workers.items)
         many.now.hall (K.told out.old) (K.told out.new) result }
 {
     match report(alloc, seed, size, many) {

@@ -1,6 +1,7 @@
 // The posts of the load's sessions: each has a door that gives one link, which says what its session sends.
 ghost use Rattle.std.specs.Prelude.{◌≡◌, All, length, IfOk};
-ghost use Rattle.reql_net.specs.Nets.{IsUntouched};
+ghost use Rattle.reql_outside.specs.Source.{source};
+ghost use Rattle.reql_net.specs.Nets.{IsUntouched, IsSound};
 
 use reql_load::script;
 use reql_memory::Memory;
@@ -16,7 +17,8 @@ pub(crate) const SESSIONS: u32 = 5;
 
 // A post to which one client comes, who sends these bytes.
 fn post(alloc: Global, sends: Vec<u8>) -> Result<LoadPost, Memory>
-    ensures { IfOk result (IsUntouched (λ d. d.told)) }
+    ensures untouched { IfOk result (IsUntouched (λ d. d.told)) }
+    ensures sound { IfOk result (IsSound source source) }
 {
     let mut steps = Vec::new(alloc);
     steps.push(LinkStep::Give(sends))?;
@@ -33,6 +35,7 @@ fn post(alloc: Global, sends: Vec<u8>) -> Result<LoadPost, Memory>
 pub(crate) fn posts(alloc: Global, seed: u32, size: u32) -> Result<Vec<LoadPost>, Memory>
     ensures count { IfOk result (λ posts. length posts.items ≡ 5) }
     ensures untouched { IfOk result (λ posts. All (IsUntouched (λ d. d.told)) posts.items) }
+    ensures sound { IfOk result (λ posts. All (IsSound source source) posts.items) }
 {
     let mut posts = Vec::new(alloc);
     for session in 0..SESSIONS {

@@ -2,7 +2,7 @@
 ghost use Rattle.std.specs.Prelude.{◌≡◌, ◌<◌, ℕ, true, map, slice_index_or, IfOk};
 ghost use Rattle.reql_load.specs.Script.{script_of};
 ghost use Rattle.reql_story.specs.declared.end.End.TheVariants as ends;
-ghost use Rattle.reql_loading.specs.Loading.{has_part, IsWhole, ServedWhole};
+ghost use Rattle.reql_loading.specs.Loading.{has_part, has_any, refusals, IsWhole, ServedWhole};
 
 use crate::posts::SESSIONS;
 use reql_answer::internal;
@@ -37,7 +37,14 @@ fn is_closed(end: End) -> bool
     }
 }
 
-// Whether a session was given these bytes and closed, and memory was wanted for none of its requests.
+// Whether one of the ends of answers that refuse a request stands among these bytes.
+fn has_refusal(bytes: &[u8]) -> bool
+    ensures { result ≡ has_any refusals bytes.now }
+{
+    has_part(bytes, b"\"t\":16}") || has_part(bytes, b"\"t\":17}") || has_part(bytes, b"\"t\":18}")
+}
+
+// Whether a session was given these bytes and closed, and none of its requests was refused.
 fn is_whole(member: &Member<MemRecord>, script: &[u8]) -> bool
     ensures { (result ≡ true) → IsWhole script.now member.now }
 {
@@ -45,6 +52,7 @@ fn is_whole(member: &Member<MemRecord>, script: &[u8]) -> bool
     is_closed(member.served.end)
         && tape.given.as_slice() == script
         && !has_part(&tape.sent, internal())
+        && !has_refusal(&tape.sent)
 }
 
 // Whether a worker served one session, which was whole.

@@ -18,6 +18,6 @@ returns-in-Ok g c = record {
   size = c.in-Load.size;
   asks = c.in-Load.ensures;
   served = c.in-Ok.ensures;
-  prints = subst (λ ms. Prints (λ c. c.tail) c.in-Load.seed c.in-Load.size ms c.in-Ok.many.hall (g.K.Sink.told c.args.out.now) (g.K.Sink.told c.print.new.out) c.print.result)
+  prints = subst (λ ms. Prints (λ c. state_of held_in c.live) (λ c. c.tail) c.in-Load.seed c.in-Load.size ms c.in-Ok.many.hall (g.K.Sink.told c.args.out.now) (g.K.Sink.told c.print.new.out) c.print.result)
       (sym (map_twice (end_of (λ d. d.told)) (λ (w : AtEnd MemRecord). w.ended) c.in-Ok.many.workers.items)) c.print.ensures;
 }
