@@ -15,7 +15,7 @@ ghost use Rattle.reql_operand.specs.Tables.{seen};
 ghost use Rattle.reql_apply_path.specs.Subjects.{seen_subject};
 
 use reql_datum::{Datum, Fault, Items, Memory, Name};
-use reql_operand::{Arg, Value, World, is_nothing, read_range, to_sequence, value_of, wrong};
+use reql_operand::{Arg, Value, World, is_nothing, read_slice, to_sequence, value_of, wrong};
 use reql_term::TableView;
 use std::alloc::Global;
 
@@ -87,11 +87,9 @@ fn subject_of<V: TableView>(
             rows: _,
             list,
         } => Ok(Subject::Elements(list.copy()?)),
-        Value::Unread {
-            slot,
-            slice: _,
-            range,
-        } => Ok(Subject::Elements(read_range(alloc, world, *slot, range)?)),
+        Value::Unread { slot, slice, range } => Ok(Subject::Elements(read_slice(
+            alloc, world, *slot, slice, range,
+        )?)),
         Value::Table(_) => Ok(Subject::Elements(to_sequence(alloc, value, world)?)),
         _ => no_subject(alloc, value),
     }

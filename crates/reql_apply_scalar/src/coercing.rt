@@ -17,7 +17,7 @@ ghost use Rattle.reql_operand.specs.Tables.{seen};
 use reql_datum::{Datum, Fault, Memory, Name};
 use reql_json::{ShowFault, to_value};
 use reql_operand::{
-    Arg, Value, World, as_text, misplaced, read_range, same_text, to_sequence, type_name,
+    Arg, Value, World, as_text, misplaced, read_slice, same_text, to_sequence, type_name,
 };
 use reql_scalar::coerce_named;
 use reql_term::TableView;
@@ -109,11 +109,9 @@ fn array_of<V: TableView>(
             rows: _,
             list,
         } => Ok(Datum::List(list.copy()?)),
-        Value::Unread {
-            slot,
-            slice: _,
-            range,
-        } => Ok(Datum::List(read_range(alloc, world, *slot, range)?)),
+        Value::Unread { slot, slice, range } => Ok(Datum::List(read_slice(
+            alloc, world, *slot, slice, range,
+        )?)),
         Value::Table(_) => Ok(Datum::List(to_sequence(alloc, value, world)?)),
         Value::One(_) => refused(alloc, value, to),
         Value::Row {

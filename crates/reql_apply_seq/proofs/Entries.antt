@@ -1,11 +1,10 @@
 -- The entries of a table by an index, between bounds, as a range, and as rows.
 use Rattle.std.proofs.Common.{◌≡◌, refl, sym, ap, ◌∙◌, ℕ, Bool, true, false, List, [], ◌∷◌, map, Option, Some, None, option_map, Ok, Err}
 use Rattle.std.specs.Option.{unwrap_or}
-use Rattle.reql_datum.specs.Answer.{Answer, ◌>>=◌, Reason}
+use Rattle.reql_datum.specs.Answer.{Answer, ◌>>=◌}
 use Rattle.reql_datum.specs.Plain.{Plain}
 use Rattle.reql_datum.specs.View.{plain}
 use Rattle.reql_term.specs.Views.{Entry, beside, directed, documents_in, entries_between, entries_of, values_in}
-use Rattle.reql_term.specs.declared.range.Range.{Range}
 use Rattle.reql_rules.specs.Lists.{Bytes}
 use Rattle.reql_value.specs.Meant.{Bounds, bounded}
 use Rattle.reql_value.specs.World.{World, View, view_at, entries_named}

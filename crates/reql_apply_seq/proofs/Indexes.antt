@@ -1,18 +1,12 @@
 -- The entries of a whole index, and DISTINCT of its values.
-use Rattle.std.proofs.Common.{◌≡◌, refl, ap, List, Bool, false, Option, Some, None, option_map, Ok, Err}
+use Rattle.std.proofs.Common.{◌≡◌, refl, List, Some, Ok, Err}
 use Rattle.reql_datum.specs.Answer.{Answer, ◌>>=◌}
-use Rattle.reql_datum.specs.Plain.{Plain, low, high}
-use Rattle.reql_term.specs.Views.{Entry, entries_between, values_in}
+use Rattle.reql_term.specs.Views.{Entry, values_in}
 use Rattle.reql_rules.specs.Lists.{Bytes}
 use Rattle.reql_rules.specs.Sorting.{distinct}
 use Rattle.reql_value.specs.Meant.{Meant, one, stream, selection, row, table, grouped, database, callable}
 use Rattle.reql_value.specs.World.{World, View, view_at, entries_named}
 use Rattle.reql_apply_seq.specs.Indexes.{named_values, values_any, distinct_values, distinct_named}
-use Rattle.reql_apply_seq.proofs.Slices.{all_between}
-
-pub any_between : (a : Option (List Entry)) → option_map (entries_between low false high false false) a ≡ a
-any_between None = refl
-any_between (Some es) = ap Some (all_between es)
 
 source_on : (a : Answer (List Entry))
     → (a >>= λ es. Ok (stream (distinct (values_in es)))) ≡ (((a >>= λ es. Ok (Some es)) >>= λ x. Ok (values_any x)) >>= λ vs. Ok (stream (distinct vs)))

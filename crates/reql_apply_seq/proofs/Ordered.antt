@@ -1,5 +1,5 @@
 -- Directions of keys; and ORDER_BY by an index and keys, as an order of rows whose first key is the index value.
-use Rattle.std.proofs.Common.{◌≡◌, refl, sym, ap, ◌∙◌, rules, ℕ, ◌+◌, Bool, true, false, List, [], ◌∷◌, map, Option, Some, None, Ok, Err}
+use Rattle.std.proofs.Common.{◌≡◌, ◌≤◌, refl, sym, ap, ◌∙◌, arith, rules, ℕ, ◌+◌, Bool, List, [], ◌∷◌, length, map, Option, Some, Ok, Err}
 use Rattle.reql_datum.specs.Answer.{Answer, ◌>>=◌}
 use Rattle.reql_datum.specs.Plain.{Plain}
 use Rattle.reql_term.specs.Views.{Entry}
@@ -7,7 +7,7 @@ use Rattle.reql_rules.specs.Lists.{each}
 use Rattle.reql_rules.specs.Sorting.{Keyed, keys_from, with_keys, keyed_order, elements, sorted}
 use Rattle.reql_rules.proofs.Stable.{map_sorted}
 use Rattle.reql_value.specs.Meant.{selection, some_rows, Given, Calls}
-use Rattle.reql_value.specs.Orders.{is_down, key_at, entry_keyed}
+use Rattle.reql_value.specs.Orders.{is_down, key_at, entry_keyed, order_by_index}
 use Rattle.reql_value.specs.World.{World}
 use Rattle.reql_operand.specs.Seen.{shown, all_shown}
 use Rattle.reql_operand.specs.declared.value.Arg.{Arg}
@@ -80,3 +80,9 @@ further_rows calls n down ks es =
     ap (λ (r : Answer (List Keyed)). r >>= λ rs. Ok (elements (sorted (keyed_order fs) rs))) (sym (each_kept calls down ks es)) ∙ sorted_on fs rows in
     selected_on n (λ rs. elements (sorted (keyed_order fs) rs)) (each (entry_keyed calls ks) es)
     ∙ ap (λ (r : Answer (List Plain)). r >>= λ ds. Ok (selection n some_rows ds)) by_rows
+
+-- where there are keys, ORDER_BY by an index goes on by them
+pub further_by : (w : World) (calls : Calls) (n : ℕ) (down : Bool) (gs : List Arg) (es : List Entry) → 1 ≤ length gs
+    → order_by_index calls n down (all_shown w gs) es ≡ further_selected calls n down (all_shown w gs) es
+further_by w calls n down [] es some = absurd (omega (arith, some))
+further_by w calls n down (g ∷ gs) es some = refl

@@ -1,50 +1,7 @@
--- Parts of sequences, and the range of all that a table has.
-use Rattle.std.proofs.Common.{◌≡◌, ◌≤◌, refl, sym, ap, ◌∙◌, arith, rules, ℕ, zero, suc, ◌+◌, ◌-◌, min, Bool, true, false, ◌&&◌, List, [], ◌∷◌, map, take, drop, length, length-drop, take_all, filter, nat_eq, slice_range, Ok}
+-- Parts of sequences.
+use Rattle.std.proofs.Common.{◌≡◌, ◌≤◌, refl, sym, ap, ◌∙◌, arith, rules, ℕ, zero, suc, ◌+◌, ◌-◌, min, Bool, List, [], ◌∷◌, take, drop, length, length-drop, take_all, nat_eq, slice_range, Ok}
 use native.Mathlib.Numerals.{unary_clauses}
-use Rattle.std.specs.Ordering.{is_le}
 use Rattle.reql_datum.specs.Answer.{Answer}
-use Rattle.reql_datum.specs.Order.{order}
-use Rattle.reql_datum.specs.Plain.{Plain, low, array, boolean, null, number, object, binary, time, text, high}
-use Rattle.reql_term.specs.Views.{Document, Entry, primary, directed, documents_in, entries_between}
-
--- every value is between the lowest and the highest
-low_first : (v : Plain) → is_le (order low v) ≡ true
-low_first low = refl
-low_first (array vs) = refl
-low_first (boolean b) = refl
-low_first null = refl
-low_first (number n) = refl
-low_first (object ms) = refl
-low_first (binary s) = refl
-low_first (time t) = refl
-low_first (text s) = refl
-low_first high = refl
-
-high_last : (v : Plain) → is_le (order v high) ≡ true
-high_last low = refl
-high_last (array vs) = refl
-high_last (boolean b) = refl
-high_last null = refl
-high_last (number n) = refl
-high_last (object ms) = refl
-high_last (binary s) = refl
-high_last (time t) = refl
-high_last (text s) = refl
-high_last high = refl
-
-all_pass : (es : List Entry) → filter (λ e. is_le (order low e.0) && is_le (order e.0 high)) es ≡ es
-all_pass [] = refl
-all_pass (e ∷ es) = rw (low_first e.0, high_last e.0) (ap (λ fs. e ∷ fs) (all_pass es))
-
-pub all_directed : (down : Bool) (es : List Entry) → entries_between low false high false down es ≡ directed down es
-all_directed down es = ap (directed down) (all_pass es)
-
-pub all_between : (es : List Entry) → entries_between low false high false false es ≡ es
-all_between es = all_pass es
-
-pub whole_at : (ms : List Document) → documents_in (primary ms) ≡ map (λ m. m.1) ms
-whole_at [] = refl
-whole_at (m ∷ ms) = ap (λ ds. m.1 ∷ ds) (whole_at ms)
 
 abbrev pub Same : {B : Type 0} → Answer B → Answer B → Type 0
 Same a b = a ≡ b
@@ -60,6 +17,13 @@ module _ {A : Type 0} where
 
   pub nothing_of : (most from : ℕ) → take most (drop {A = A} from []) ≡ []
   nothing_of most from = ap (take most) (drop_none from) ∙ take_none most
+
+  pub passed_both : (xs : List A) (passed from : ℕ) → drop from (drop passed xs) ≡ drop (passed + from) xs
+  passed_both xs zero from = let on : from ≡ 0 + from = omega arith in ap (λ k. drop k xs) on
+  passed_both [] (suc passed) from = drop_none from ∙ sym (drop_none (suc passed + from))
+  passed_both (x ∷ xs) (suc passed) from =
+      let on : suc (passed + from) ≡ suc passed + from = omega arith in
+      passed_both xs passed from ∙ ap (λ k. drop k (x ∷ xs)) on
 
   take_within : (xs : List A) (most : ℕ) → take (min (length xs) most) xs ≡ take most xs
   take_within [] most = take_none (min 0 most) ∙ sym (take_none most)
@@ -96,3 +60,7 @@ module _ {A : Type 0} where
   first_is_missing xs ys b h e =
       let same : take 1 (drop 0 xs) ≡ ys = cc in
       ap Ok (sym (none_from xs) ∙ ap (λ zs. nat_eq (length zs) 0) same ∙ sym e)
+
+  -- a part of a rest, and the rest of a rest
+  pub part_of_rest : (xs : List A) (passed from most : ℕ) → take most (drop from (drop passed xs)) ≡ take most (drop (passed + from) xs)
+  part_of_rest xs passed from most = ap (take most) (passed_both xs passed from)

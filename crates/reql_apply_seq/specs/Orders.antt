@@ -1,5 +1,5 @@
 -- ORDER_BY: the directions of keys, the entries of an index that a source has, and rows of entries.
-use Rattle.std.specs.Prelude.{ℕ, ◌-◌, nat_eq, List, [], ◌∷◌, map, slice_get, Bool, false, if◌then◌else◌, Option, None, option_map, option_and_then, Ok, Err}
+use Rattle.std.specs.Prelude.{ℕ, ◌-◌, nat_eq, List, [], ◌∷◌, map, slice_get, Bool, false, if◌then◌else◌, Option, option_map, option_and_then, Ok, Err}
 use Rattle.std.specs.Option.{unwrap_or}
 use Rattle.reql_datum.specs.Answer.{Answer, ◌>>=◌}
 use Rattle.reql_datum.specs.Plain.{Plain, null}

@@ -1,9 +1,10 @@
 -- The elements of a sequence that may not have been read yet.
-use Rattle.std.specs.Prelude.{ℕ, List, length, nat_eq, Bool, true, false, if◌then◌else◌, Ok}
+use Rattle.std.specs.Prelude.{◌≡◌, ℕ, List, length, drop, nat_eq, Bool, true, false, if◌then◌else◌, Ok}
 use Rattle.reql_datum.specs.Answer.{Answer, ◌>>=◌}
 use Rattle.reql_datum.specs.Plain.{Plain}
 use Rattle.reql_rules.specs.Lists.{array_of}
-use Rattle.reql_value.specs.Meant.{Meant, one, stream, Given}
+use Rattle.reql_value.specs.Meant.{Meant, one, stream, selection, some_rows, Given}
+use Rattle.reql_value.specs.Sequenced.{alike}
 use Rattle.reql_value.specs.Wanted.{as_sequence}
 use Rattle.reql_value.specs.World.{World}
 use Rattle.reql_operand.specs.Seen.{documents_at}
@@ -16,7 +17,16 @@ use Rattle.reql_apply_seq.specs.declared.source.Source.TheVariants as s
 
 abbrev pub elements : World → Source → List Plain
 elements w (s.Read ds) = ds
-elements w (s.Ranged n r) = documents_at w n r
+elements w (s.Ranged n r k) = drop k (documents_at w n r)
+
+-- where a sequence is a range of a table, its parts are rows of that table
+abbrev pub IsOf : ℕ → Source → Type 0
+IsOf slot (s.Read ds) = Unit {0}
+IsOf slot (s.Ranged n r k) = n ≡ slot
+
+abbrev pub HasRowsOf : Meant → Source → Type 0
+HasRowsOf m (s.Read ds) = Unit {0}
+HasRowsOf m (s.Ranged n r k) = (ds : List Plain) → alike m ds ≡ selection n some_rows ds
 
 -- whether it has none
 abbrev pub is_none : World → Given → Answer Bool

@@ -1,15 +1,17 @@
 // The values of an index of a table.
-ghost use Rattle.std.specs.Prelude.{◌≡◌, List, ℕ, Ok};
+ghost use Rattle.std.specs.Prelude.{Ok};
 ghost use Rattle.reql_datum.specs.Outcome.{Gives};
-ghost use Rattle.reql_term.specs.Views.{Document, Entry, Index, entries_in, entries_of};
+ghost use Rattle.reql_term.specs.Views.{entries_in};
 ghost use Rattle.reql_value.specs.World.{entries_named};
 ghost use Rattle.reql_operand.specs.Seen.{meant};
 ghost use Rattle.reql_operand.specs.Tables.{view, seen};
 ghost use Rattle.reql_apply_seq.specs.Indexes.{entries_by, entries_any, named, values_any, named_values as named_values_of, table_values as table_values_of};
 
-use reql_datum::{Datum, Fault, Items, Name};
-use reql_operand::{Value, Viewed, World, misplaced_order, no_index, same_text, table_at};
-use reql_term::{Bound, Range, TableView, ViewFault};
+use reql_datum::{Fault, Items, Name};
+use reql_operand::{
+    Value, Viewed, World, misplaced_order, no_index, same_text, table_at, whole_range,
+};
+use reql_term::{Range, TableView, ViewFault};
 use std::alloc::Global;
 
 /// The values of an index of a table in its order. Only a table has any.
@@ -67,7 +69,7 @@ fn values_by<V: TableView>(
     ensures { let v = view V.documents V.indexes V.entries table.now in
         Gives (λ items. items) result (Ok (values_any (entries_by v index))) }
 {
-    let range = range_by(index);
+    let range = whole_range(index);
     values_between(alloc, table, &range)
 }
 
@@ -84,26 +86,5 @@ fn values_between<V: TableView>(
         Ok(entries) => Ok(entries.values),
         Err(ViewFault::IndexMissing) => Ok(Items::new(alloc)),
         Err(ViewFault::Memory) => Err(Fault::Memory),
-    }
-}
-
-// All of an index.
-#[tactic(auto, using(crate::proofs::Indexes::any_between))]
-fn range_by(index: Option<Name>) -> Range
-    ensures { (documents : List Document) (indexes : List (List ℕ × Index))
-        (entries : List ℕ → List Entry) → entries_in documents indexes entries result
-        ≡ entries_of documents indexes entries index }
-{
-    Range {
-        index,
-        low: Bound {
-            value: Datum::Low,
-            is_open: false,
-        },
-        high: Bound {
-            value: Datum::High,
-            is_open: false,
-        },
-        down: false,
     }
 }

@@ -2,15 +2,15 @@
 ghost use Rattle.std.specs.Prelude.{take, drop, length, nat_eq, Ok};
 ghost use Rattle.reql_datum.specs.Outcome.{Gives};
 ghost use Rattle.reql_datum.specs.View.{plain};
-ghost use Rattle.reql_value.specs.Meant.{Calls, Options};
-ghost use Rattle.reql_value.specs.Sequenced.{alike_first};
+ghost use Rattle.reql_value.specs.Meant.{Calls, Options, meant_of};
+ghost use Rattle.reql_value.specs.Sequenced.{alike as alike_of, alike_first};
 ghost use Rattle.reql_value.specs.Sequences.{counted_part, is_empty as is_empty_of};
 ghost use Rattle.reql_operand.specs.Seen.{meant, shown, all_shown};
 ghost use Rattle.reql_operand.specs.Tables.{seen};
-ghost use Rattle.reql_apply_seq.specs.Sources.{elements, is_none};
+ghost use Rattle.reql_apply_seq.specs.Sources.{elements, HasRowsOf, is_none};
 
 use crate::places::as_count;
-use crate::source::{Source, part, rest, source_of};
+use crate::source::{Source, part, rest, source_of, unread_rest};
 use reql_datum::{Datum, Fault};
 use reql_operand::{Arg, Value, World, alike, as_number, misplaced};
 use reql_term::TableView;
@@ -45,10 +45,31 @@ pub fn skip<V: TableView>(alloc: Global, args: &[Arg], world: &World<V>) -> Resu
         [source, n] => {
             let all = source_of(alloc, source, world)?;
             let count = as_count(alloc, as_number(alloc, n)?)?;
-            let left = rest(alloc, world, &all, count)?;
-            Ok(alike(source, left))
+            all_but(alloc, source, &all, count, world)
         }
         _ => Err(Fault::QueryLogic(misplaced(alloc)?)),
+    }
+}
+
+// The elements of a sequence but so many of the first. Where they are a range they aren't read.
+fn all_but<V: TableView>(
+    alloc: Global,
+    source: &Arg,
+    all: &Source,
+    count: usize,
+    world: &World<V>,
+) -> Result<Value, Fault>
+    requires { let w = seen V.documents V.indexes V.entries world.now in
+        HasRowsOf (meant_of (shown w source.now)) all.now }
+    ensures { let w = seen V.documents V.indexes V.entries world.now in Gives (meant w) result
+        (Ok (alike_of (meant_of (shown w source.now)) (drop count (elements w all.now)))) }
+{
+    match unread_rest(all, count)? {
+        Some(value) => Ok(value),
+        None => {
+            let left = rest(alloc, world, all, count)?;
+            Ok(alike(source, left))
+        }
     }
 }
 

@@ -136,6 +136,7 @@ fn slice_by<V: TableView>(
     match slice {
         Slice::Between(bounds) => bounds_by(alloc, slot, bounds, name, world),
         Slice::InOrder => Err(Fault::QueryLogic(misplaced_order(alloc)?)),
+        Slice::Rest(_) => Err(Fault::QueryLogic(misplaced_order(alloc)?)),
     }
 }
 

@@ -1,13 +1,11 @@
 -- What is made of the entries of an index, where there is one.
-use Rattle.std.proofs.Common.{◌≡◌, ℕ, suc, Result, IfOk, List, [], ◌∷◌, map, Option, Some, None, option_map, Ok, Err, true, false, ◌&&◌, refl, ap, sym, ◌∙◌, length}
+use Rattle.std.proofs.Common.{◌≡◌, ℕ, suc, Result, IfOk, List, [], ◌∷◌, Option, Some, None, option_map, Ok, Err, false, refl, ap, sym, ◌∙◌, length}
 use Rattle.std.specs.Option.{unwrap_or}
-use Rattle.std.specs.Ordering.{is_le}
 use Rattle.reql_datum.specs.Answer.{Answer, ◌>>=◌}
 use Rattle.reql_datum.specs.Outcome.{Gives}
 use Rattle.reql_datum.specs.declared.fault.Fault.{Fault}
-use Rattle.reql_datum.specs.Order.{order}
-use Rattle.reql_datum.specs.Plain.{Plain, low, array, boolean, null, number, object, binary, time, text, high}
-use Rattle.reql_term.specs.Views.{Document, Entry, Index, all_of, documents_in, entries_between, primary, ranged}
+use Rattle.reql_datum.specs.Plain.{Plain}
+use Rattle.reql_term.specs.Views.{Document, Entry, all_of, documents_in, primary, ranged}
 use Rattle.reql_term.specs.declared.range.Range.{Range}
 use Rattle.reql_operand.specs.Seen.{documents_of_entries, documents_of_view, documents_at}
 use Rattle.reql_rules.specs.Lists.{Bytes}
@@ -60,39 +58,6 @@ slice_stands w n v r b es named viewed read =
     let seen_so : documents_at w n r ≡ documents_in (bounded b es) = ap (documents_of_view r) viewed ∙ read in
     by_index ∙ ap (λ (ds : List Plain). Ok (selection n (slice_between b) ds)) (sym seen_so)
 
--- all values are between the least and the greatest
-above_low : (v : Plain) → is_le (order low v) ≡ true
-above_low low = refl
-above_low (array vs) = refl
-above_low (boolean b) = refl
-above_low null = refl
-above_low (number n) = refl
-above_low (object ms) = refl
-above_low (binary s) = refl
-above_low (time t) = refl
-above_low (text s) = refl
-above_low high = refl
-
-below_high : (v : Plain) → is_le (order v high) ≡ true
-below_high low = refl
-below_high (array vs) = refl
-below_high (boolean b) = refl
-below_high null = refl
-below_high (number n) = refl
-below_high (object ms) = refl
-below_high (binary s) = refl
-below_high (time t) = refl
-below_high (text s) = refl
-below_high high = refl
-
 pub counted : (ms : List Document) → length (documents_in (primary ms)) ≡ length ms
 counted [] = refl
 counted (m ∷ ms) = ap suc (counted ms)
-
-pub all_between : (es : List Entry) → entries_between low false high false false es ≡ es
-all_between [] = refl
-all_between (e ∷ es) = rw (above_low e.0, below_high e.0) (ap (λ fs. e ∷ fs) (all_between es))
-
-pub any_between : (a : Option (List Entry)) → option_map (entries_between low false high false false) a ≡ a
-any_between None = refl
-any_between (Some es) = ap Some (all_between es)

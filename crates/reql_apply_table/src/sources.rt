@@ -3,7 +3,7 @@ ghost use Rattle.std.specs.Prelude.{◌≡◌, List, ℕ, IfOk, Ok, Some, option
 ghost use Rattle.std.specs.Option.{unwrap_or};
 ghost use Rattle.reql_datum.specs.Outcome.{Gives};
 ghost use Rattle.reql_datum.specs.View.{plain};
-ghost use Rattle.reql_term.specs.Views.{Document, Entry, Index, entries_in, entries_of, beside, seen_beside};
+ghost use Rattle.reql_term.specs.Views.{beside, seen_beside};
 ghost use Rattle.reql_value.specs.Tables.{index_or_key as index_or_key_of};
 ghost use Rattle.reql_value.specs.World.{World as Seen, view_at, index_name, entries_named};
 ghost use Rattle.reql_value.specs.Wanted.{as_table as as_table_of};
@@ -12,8 +12,8 @@ ghost use Rattle.reql_operand.specs.Tables.{view, seen};
 ghost use Rattle.reql_apply_table.specs.Sources.{entries_at, entries_beside, having};
 
 use reql_datum::{Datum, Fault, Items, Memory, Name};
-use reql_operand::{Arg, Viewed, World, as_table, no_index, same_text};
-use reql_term::{Bound, Entries, Range, TableView, ViewFault};
+use reql_operand::{Arg, Viewed, World, as_table, no_index, same_text, whole_range};
+use reql_term::{Entries, TableView, ViewFault};
 use std::alloc::Global;
 
 /// The table, as an argument, which is then the one in its slot.
@@ -104,26 +104,6 @@ fn entries_by<V: TableView>(
             documents: Items::new(alloc),
         }),
         Err(ViewFault::Memory) => Err(Fault::Memory),
-    }
-}
-
-/// All of an index, or of the primary order.
-pub(crate) fn whole_range(index: Option<Name>) -> Range
-    ensures { (documents : List Document) (indexes : List (List ℕ × Index))
-        (entries : List ℕ → List Entry) → entries_in documents indexes entries result
-        ≡ entries_of documents indexes entries index }
-{
-    Range {
-        index,
-        low: Bound {
-            value: Datum::Low,
-            is_open: false,
-        },
-        high: Bound {
-            value: Datum::High,
-            is_open: false,
-        },
-        down: false,
     }
 }
 

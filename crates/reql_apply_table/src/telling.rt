@@ -12,11 +12,10 @@ ghost use Rattle.reql_apply_table.specs.Told.{about as about_in};
 
 use crate::admin::{About, db_config, db_info, table_config, table_info, table_status, type_info};
 use crate::indexes::index_names;
-use crate::sources::whole_range;
 use reql_datum::{Datum, Fault, Memory, Name};
 use reql_operand::{
     Arg, Value, Viewed, World, as_table, misplaced, table_at, text_in_arg, type_name, value_of,
-    wrong, wrong_arg,
+    whole_range, wrong, wrong_arg,
 };
 use reql_term::{TableView, ViewFault};
 use std::alloc::Global;

@@ -39,6 +39,7 @@ none_shown (d ∷ ds) h = none_first d ds (is_storable d) refl h (none_shown ds)
 pub slice_shown : (k : Slice) (ds : List Plain) → rows_shown (slice k) ds ≡ as_sequence ds
 slice_shown (s.Between b) ds = refl
 slice_shown s.InOrder ds = refl
+slice_shown (s.Rest passed) ds = refl
 
 pub ruleset storable = (all_shown, none_shown)
 

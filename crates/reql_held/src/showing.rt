@@ -17,7 +17,7 @@ ghost use Rattle.reql_held.specs.Shown.{shown_as, shown_term};
 
 use crate::evaluated::meant_of;
 use reql_datum::{Datum, Fault, Items, Memory, Name};
-use reql_operand::{Group, Rows, Value, World, misplaced, read_range, table_at, wrong};
+use reql_operand::{Group, Rows, Value, World, misplaced, read_slice, table_at, wrong};
 use reql_term::{TableView, Term};
 use std::alloc::Global;
 
@@ -51,11 +51,10 @@ fn showing_of<V: TableView>(alloc: Global, world: &World<V>, value: Value) -> Re
             rows,
             list,
         } => rows_shown(alloc, rows, list),
-        Value::Unread {
-            slot,
-            slice: _,
-            range,
-        } => as_sequence(alloc, read_range(alloc, world, slot, &range)?),
+        Value::Unread { slot, slice, range } => as_sequence(
+            alloc,
+            read_slice(alloc, world, slot, &slice, &range)?,
+        ),
         Value::Row {
             slot: _,
             key: _,

@@ -1,5 +1,5 @@
 -- The range of all that a table has.
-use Rattle.std.proofs.Common.{◌≡◌, refl, ap, true, false, ◌&&◌, List, [], ◌∷◌, map, filter, Some, Ok}
+use Rattle.std.proofs.Common.{◌≡◌, refl, ap, true, false, ◌&&◌, List, [], ◌∷◌, map, filter, Option, Some, None, option_map, Ok}
 use Rattle.std.specs.Ordering.{is_le}
 use Rattle.reql_datum.specs.Answer.{Answer, ◌>>=◌}
 use Rattle.reql_datum.specs.Order.{order}
@@ -38,8 +38,9 @@ all_pass : (es : List Entry) → filter (λ e. is_le (order low e.0) && is_le (o
 all_pass [] = refl
 all_pass (e ∷ es) = rw (low_first e.0, high_last e.0) (ap (λ fs. e ∷ fs) (all_pass es))
 
-pub all_between : (es : List Entry) → entries_between low false high false false es ≡ es
-all_between es = all_pass es
+pub any_between : (a : Option (List Entry)) → option_map (entries_between low false high false false) a ≡ a
+any_between None = refl
+any_between (Some es) = ap Some (all_pass es)
 
 pub whole_at : (ms : List Document) → documents_in (primary ms) ≡ map (λ m. m.1) ms
 whole_at [] = refl

@@ -1,5 +1,5 @@
 -- What the values of code stand for in a world of tables.
-use Rattle.std.specs.Prelude.{ℕ, List, [], map, Option, Some, None, option_map, Result, Ok, Err}
+use Rattle.std.specs.Prelude.{ℕ, List, [], map, drop, Option, Some, None, option_map, Result, Ok, Err}
 use Rattle.reql_datum.specs.Answer.{Answer, Reason, query_logic, non_existence, resource_limit, op_failed, user, no_text}
 use Rattle.reql_datum.specs.Plain.{Plain}
 use Rattle.reql_datum.specs.View.{plain}
@@ -30,6 +30,13 @@ bounds b = record { index = b.index; low = plain b.low.value; low_open = b.low.i
 abbrev pub slice : Slice → m.Kind
 slice (s.Between b) = m.slice_between (bounds b)
 slice s.InOrder = m.slice_in_order
+slice (s.Rest passed) = m.some_rows
+
+-- the rows of a slice, of those of its range
+abbrev pub left_of : Slice → List Plain → List Plain
+left_of (s.Between b) ds = ds
+left_of s.InOrder ds = ds
+left_of (s.Rest passed) ds = drop passed ds
 
 abbrev pub rows : Rows → m.Kind
 rows r.InSequence = m.some_rows
@@ -54,7 +61,7 @@ abbrev pub meant : World → Value → m.Meant
 meant w (v.One d) = m.one (plain d)
 meant w (v.Stream ds) = m.stream ds
 meant w (v.Selection n k ds) = m.selection n (rows k) ds
-meant w (v.Unread n k r) = m.selection n (slice k) (documents_at w n r)
+meant w (v.Unread n k r) = m.selection n (slice k) (left_of k (documents_at w n r))
 meant w (v.Row n d e) = m.row n (plain d) (option_map plain e)
 meant w (v.Table n) = m.table n
 meant w (v.Grouped gs) = m.grouped (map group gs.items)

@@ -1,15 +1,17 @@
 // Copies of values, by counts of sharers.
-ghost use Rattle.std.specs.Prelude.{◌≡◌, IfOk, map, option_map};
+ghost use Rattle.std.specs.Prelude.{◌≡◌, List, IfOk, map, option_map};
+ghost use Rattle.reql_datum.specs.Plain.{Plain};
 ghost use Rattle.reql_datum.specs.View.{plain};
 ghost use Rattle.reql_value.specs.World.{World as Seen};
-ghost use Rattle.reql_operand.specs.Seen.{meant, slice as slice_of, group};
+ghost use Rattle.reql_operand.specs.Seen.{meant, slice as slice_of, left_of, group};
 
 use crate::value::{Bounds, Group, Slice, Value};
 use reql_datum::{Datum, Memory};
 use std::alloc::Global;
 
 fn copy_slice(slice: &Slice) -> Result<Slice, Memory>
-    ensures { IfOk result (λ s. slice_of s ≡ slice_of slice.now) }
+    ensures kind { IfOk result (λ s. slice_of s ≡ slice_of slice.now) }
+    ensures left { (ds : List Plain) → IfOk result (λ s. left_of s ds ≡ left_of slice.now ds) }
 {
     match slice {
         Slice::Between(bounds) => Ok(Slice::Between(Bounds {
@@ -18,6 +20,7 @@ fn copy_slice(slice: &Slice) -> Result<Slice, Memory>
             high: bounds.high.copy()?,
         })),
         Slice::InOrder => Ok(Slice::InOrder),
+        Slice::Rest(passed) => Ok(Slice::Rest(*passed)),
     }
 }
 

@@ -1,18 +1,18 @@
 // Elements counted, and single ones taken, without reading the others of a slice.
-ghost use Rattle.std.specs.Prelude.{◌≡◌, List, ℕ, Ok, Some, IfOk, length, option_map, slice_get};
+ghost use Rattle.std.specs.Prelude.{◌≡◌, List, ℕ, Ok, IfOk, length, drop, option_map, slice_get};
 ghost use Rattle.reql_datum.specs.Outcome.{Gives};
 ghost use Rattle.reql_datum.specs.View.{plain};
-ghost use Rattle.reql_term.specs.Views.{Document, Entry, Index, entries_in, primary};
+ghost use Rattle.reql_term.specs.Views.{Document, Entry, Index, entries_in, entries_of};
 ghost use Rattle.reql_value.specs.Meant.{table as table_of};
 ghost use Rattle.reql_value.specs.Sequences.{count_elements as count_elements_of};
 ghost use Rattle.reql_operand.specs.Counted.{element};
-ghost use Rattle.reql_operand.specs.Seen.{meant, documents_at, documents_of_view};
+ghost use Rattle.reql_operand.specs.Seen.{meant, left_of, documents_at, documents_of_view};
 ghost use Rattle.reql_operand.specs.Tables.{view, seen};
 
-use crate::reading::to_sequence;
-use crate::value::Value;
+use crate::reading::{read_rest, to_sequence};
+use crate::value::{Slice, Value};
 use crate::world::{Viewed, World, table_at};
-use reql_datum::{Datum, Fault, Items, Memory};
+use reql_datum::{Datum, Fault, Items, Memory, Name};
 use reql_term::{Bound, Range, TableView, ViewFault};
 use std::alloc::Global;
 
@@ -44,15 +44,46 @@ pub fn count_range<V: TableView>(
     }
 }
 
-// All of the primary order.
-#[tactic(auto, using(crate::proofs::Whole::all_between))]
-fn whole_range() -> Range
+/// How many documents a range of the table in a slot has from the one at a place on.
+pub fn count_rest<V: TableView>(
+    alloc: Global,
+    world: &World<V>,
+    slot: u32,
+    range: &Range,
+    from: usize,
+) -> Result<u64, Fault>
+    ensures { Gives (λ n. n) result (Ok (length (drop from
+        (documents_at (seen V.documents V.indexes V.entries world.now) slot range.now)))) }
+{
+    let size = count_range(alloc, world, slot, range)?;
+    Ok(size.saturating_sub(from as u64))
+}
+
+fn count_slice<V: TableView>(
+    alloc: Global,
+    world: &World<V>,
+    slot: u32,
+    slice: &Slice,
+    range: &Range,
+) -> Result<u64, Fault>
+    ensures { Gives (λ n. n) result (Ok (length (left_of slice.now
+        (documents_at (seen V.documents V.indexes V.entries world.now) slot range.now)))) }
+{
+    match slice {
+        Slice::Between(_) => count_range(alloc, world, slot, range),
+        Slice::InOrder => count_range(alloc, world, slot, range),
+        Slice::Rest(passed) => count_rest(alloc, world, slot, range, *passed),
+    }
+}
+
+/// All of an index, or of the primary order.
+pub fn whole_range(index: Option<Name>) -> Range
     ensures { (documents : List Document) (indexes : List (List ℕ × Index))
-        (entries : List ℕ → List Entry)
-        → entries_in documents indexes entries result ≡ Some (primary documents) }
+        (entries : List ℕ → List Entry) → entries_in documents indexes entries result
+        ≡ entries_of documents indexes entries index }
 {
     Range {
-        index: None,
+        index,
         low: Bound {
             value: Datum::Low,
             is_open: false,
@@ -70,7 +101,7 @@ fn count_whole<V: TableView>(alloc: Global, world: &World<V>, slot: u32) -> Resu
         (count_elements_of (seen V.documents V.indexes V.entries world.now) (table_of slot)) }
 {
     let table = table_at(alloc, world, slot)?;
-    let range = whole_range();
+    let range = whole_range(None);
     let count = count_in_table(table, &range)?;
     Ok(count)
 }
@@ -86,11 +117,7 @@ pub fn count_elements<V: TableView>(
         (meant (seen V.documents V.indexes V.entries world.now) value.now)) }
 {
     match value {
-        Value::Unread {
-            slot,
-            slice: _,
-            range,
-        } => count_range(alloc, world, *slot, range),
+        Value::Unread { slot, slice, range } => count_slice(alloc, world, *slot, slice, range),
         Value::Table(slot) => count_whole(alloc, world, *slot),
         _ => {
             let items = to_sequence(alloc, value, world)?;
@@ -143,6 +170,46 @@ fn take_in_range<V: TableView>(
     }
 }
 
+// Of a range but so many of the first.
+#[tactic(auto, using(crate::proofs::Parts::at_rest))]
+fn take_in_rest<V: TableView>(
+    alloc: Global,
+    world: &World<V>,
+    slot: u32,
+    range: &Range,
+    passed: usize,
+    place: usize,
+) -> Result<Option<Datum>, Fault>
+    ensures { Gives (option_map plain) result (Ok (slice_get (drop passed
+        (documents_at (seen V.documents V.indexes V.entries world.now) slot range.now)) place)) }
+{
+    match passed.checked_add(place) {
+        Some(at) => take_in_range(alloc, world, slot, range, at),
+        None => {
+            let rest = read_rest(alloc, world, slot, range, passed)?;
+            Ok(copy_at(&rest, place)?)
+        }
+    }
+}
+
+fn take_in_slice<V: TableView>(
+    alloc: Global,
+    world: &World<V>,
+    slot: u32,
+    slice: &Slice,
+    range: &Range,
+    place: usize,
+) -> Result<Option<Datum>, Fault>
+    ensures { Gives (option_map plain) result (Ok (slice_get (left_of slice.now
+        (documents_at (seen V.documents V.indexes V.entries world.now) slot range.now)) place)) }
+{
+    match slice {
+        Slice::Between(_) => take_in_range(alloc, world, slot, range, place),
+        Slice::InOrder => take_in_range(alloc, world, slot, range, place),
+        Slice::Rest(passed) => take_in_rest(alloc, world, slot, range, *passed, place),
+    }
+}
+
 fn take_in_whole<V: TableView>(
     alloc: Global,
     world: &World<V>,
@@ -153,7 +220,7 @@ fn take_in_whole<V: TableView>(
         (element (seen V.documents V.indexes V.entries world.now) place (table_of slot)) }
 {
     let table = table_at(alloc, world, slot)?;
-    let range = whole_range();
+    let range = whole_range(None);
     let found = take_in_table(alloc, table, &range, place)?;
     Ok(found)
 }
@@ -170,11 +237,9 @@ pub fn element_at<V: TableView>(
         (meant (seen V.documents V.indexes V.entries world.now) value.now)) }
 {
     match value {
-        Value::Unread {
-            slot,
-            slice: _,
-            range,
-        } => take_in_range(alloc, world, *slot, range, place),
+        Value::Unread { slot, slice, range } => {
+            take_in_slice(alloc, world, *slot, slice, range, place)
+        }
         Value::Table(slot) => take_in_whole(alloc, world, *slot, place),
         _ => {
             let items = to_sequence(alloc, value, world)?;

@@ -21,13 +21,13 @@ pub use called::{
     answer, answer_datum, answer_items, answer_key, answer_one, answer_test, answer_two, passes,
 };
 pub use copying::copy_value;
-pub use counted::{count_elements, count_range, element_at};
+pub use counted::{count_elements, count_range, count_rest, element_at, whole_range};
 pub use documents::{as_data, as_object, as_time, time_in_arg, to_object};
 pub use field::{get_field, get_fields};
 pub use limits::sized;
 pub use matching::{fits, is_same};
 pub use options::{find_choice, index_text, left_is_open, right_is_open, same_text, text_option};
-pub use reading::{as_sequence, as_table, read_range, to_sequence};
+pub use reading::{as_sequence, as_table, read_part, read_rest, read_slice, to_sequence};
 pub use scalars::{is_true, negation, raise, type_of};
 pub use sequenced::{alike, in_order, like};
 pub use texts::{

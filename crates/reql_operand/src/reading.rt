@@ -1,16 +1,17 @@
 // Sequences and tables, as values and arguments, and the documents that they have.
-ghost use Rattle.std.specs.Prelude.{◌≡◌, Ok, Err, map, is_ok, false, codes};
+ghost use Rattle.std.specs.Prelude.{◌≡◌, Ok, Err, map, take, drop, is_ok, false, codes};
 ghost use Rattle.reql_datum.specs.Outcome.{Gives};
 ghost use Rattle.reql_datum.specs.View.{plain};
 ghost use Rattle.reql_rules.specs.Types.{wanted, items_in as items_in_of};
 ghost use Rattle.reql_value.specs.Meant.{one};
 ghost use Rattle.reql_value.specs.Wanted.{wrong as wrong_of, to_sequence as to_sequence_of, as_sequence as as_sequence_of, to_table as to_table_of, as_table as as_table_of};
-ghost use Rattle.reql_operand.specs.Seen.{meant, shown, documents_at, documents_of_view};
+ghost use Rattle.reql_operand.specs.Seen.{meant, shown, left_of, documents_at, documents_of_view};
 ghost use Rattle.reql_value.specs.World.{World as Seen};
 ghost use Rattle.reql_operand.specs.Tables.{view, seen};
 
+use crate::counted::count_range;
 use crate::texts::type_text;
-use crate::value::{Arg, Value};
+use crate::value::{Arg, Slice, Value};
 use crate::wanted::{no_value, wrong};
 use crate::world::{Viewed, World, table_at};
 use reql_datum::{Datum, Fault, Items};
@@ -36,8 +37,8 @@ fn in_range<V: TableView>(alloc: Global, table: &Viewed<V>, range: &Range) -> Re
     }
 }
 
-/// The documents of a range of the table in a slot.
-pub fn read_range<V: TableView>(
+// The documents of a range of the table in a slot.
+fn read_range<V: TableView>(
     alloc: Global,
     world: &World<V>,
     slot: u32,
@@ -50,6 +51,78 @@ pub fn read_range<V: TableView>(
         Ok(table) => in_range(alloc, table, range),
         Err(Fault::Memory) => Err(Fault::Memory),
         Err(_) => Ok(Items::new(alloc)),
+    }
+}
+
+fn part_in_range<V: TableView>(
+    alloc: Global,
+    table: &Viewed<V>,
+    range: &Range,
+    from: usize,
+    most: usize,
+) -> Result<Items, Fault>
+    ensures { Gives (λ items. items) result (Ok (take most (drop from
+        (documents_of_view range.now (Ok (view V.documents V.indexes V.entries table.now)))))) }
+{
+    match table.view.part(alloc, range, from, most) {
+        Ok(items) => Ok(items),
+        Err(ViewFault::IndexMissing) => Ok(Items::new(alloc)),
+        Err(ViewFault::Memory) => Err(Fault::Memory),
+    }
+}
+
+/// So many documents at most of a range of the table in a slot, from the one at a place on. No
+/// others are read.
+pub fn read_part<V: TableView>(
+    alloc: Global,
+    world: &World<V>,
+    slot: u32,
+    range: &Range,
+    from: usize,
+    most: usize,
+) -> Result<Items, Fault>
+    ensures { Gives (λ items. items) result (Ok (take most (drop from
+        (documents_at (seen V.documents V.indexes V.entries world.now) slot range.now)))) }
+{
+    match table_at(alloc, world, slot) {
+        Ok(table) => part_in_range(alloc, table, range, from, most),
+        Err(Fault::Memory) => Err(Fault::Memory),
+        Err(_) => Ok(Items::new(alloc)),
+    }
+}
+
+/// The documents of a range of the table in a slot, from the one at a place on. Those before it
+/// aren't read.
+#[tactic(auto, using(crate::proofs::Parts::rest_from))]
+pub fn read_rest<V: TableView>(
+    alloc: Global,
+    world: &World<V>,
+    slot: u32,
+    range: &Range,
+    from: usize,
+) -> Result<Items, Fault>
+    ensures { Gives (λ items. items) result (Ok (drop from
+        (documents_at (seen V.documents V.indexes V.entries world.now) slot range.now))) }
+{
+    let size = count_range(alloc, world, slot, range)?;
+    read_part(alloc, world, slot, range, from, size as usize)
+}
+
+/// The rows of a slice of the table in a slot.
+pub fn read_slice<V: TableView>(
+    alloc: Global,
+    world: &World<V>,
+    slot: u32,
+    slice: &Slice,
+    range: &Range,
+) -> Result<Items, Fault>
+    ensures { Gives (λ items. items) result (Ok (left_of slice.now
+        (documents_at (seen V.documents V.indexes V.entries world.now) slot range.now))) }
+{
+    match slice {
+        Slice::Between(_) => read_range(alloc, world, slot, range),
+        Slice::InOrder => read_range(alloc, world, slot, range),
+        Slice::Rest(passed) => read_rest(alloc, world, slot, range, *passed),
     }
 }
 
@@ -95,11 +168,7 @@ pub fn to_sequence<V: TableView>(
             rows: _,
             list,
         } => Ok(list.copy()?),
-        Value::Unread {
-            slot,
-            slice: _,
-            range,
-        } => read_range(alloc, world, *slot, range),
+        Value::Unread { slot, slice, range } => read_slice(alloc, world, *slot, slice, range),
         Value::Table(slot) => all_documents(alloc, table_at(alloc, world, *slot)?),
         _ => no_sequence(alloc, value),
     }

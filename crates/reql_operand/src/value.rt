@@ -10,11 +10,13 @@ pub struct Bounds {
     pub high: Bound,
 }
 
-/// A slice of a table: between bounds, or in the order of an index.
+/// A slice of a table: between bounds, or in the order of an index, or what is left of one where so
+/// many of its first rows are passed over.
 #[derive(Drop)]
 pub enum Slice {
     Between(Bounds),
     InOrder,
+    Rest(usize),
 }
 
 /// A selection of rows that have been read: it prints as a sequence, or as an array.
@@ -42,7 +44,8 @@ pub enum Value {
         rows: Rows,
         list: Items,
     },
-    /// A slice of the table in a slot, whose rows are those of a range. They haven't been read yet.
+    /// A slice of the table in a slot, whose rows are those of a range, or the last of them. They
+    /// haven't been read yet.
     Unread {
         slot: u32,
         slice: Slice,

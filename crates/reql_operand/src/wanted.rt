@@ -38,6 +38,7 @@ pub fn type_name(value: &Value) -> &'static str
         } => match slice {
             Slice::Between(_) => "TABLE_SLICE",
             Slice::InOrder => "TABLE_SLICE",
+            Slice::Rest(_) => "SELECTION<STREAM>",
         },
         Value::Row {
             slot: _,

@@ -115,7 +115,12 @@ pub(crate) fn bad_name(alloc: Global) -> Fault
 
 /// Puts a name that is not there yet into an object. One that is there, or the reserved one, is a
 /// fault.
-pub fn put_new(alloc: Global, fields: &mut Fields, name: &Name, value: &Datum) -> Result<(), Fault>
+pub(crate) fn put_new(
+    alloc: Global,
+    fields: &mut Fields,
+    name: &Name,
+    value: &Datum,
+) -> Result<(), Fault>
     ensures { Gives (λ _. fields.new) result (put_new name.now (plain value.now) fields.old) }
 {
     if is_same(name.as_str(), "$reql_type$") || fields.get(name.as_str()).is_some() {

@@ -15,7 +15,7 @@ mod wanted;
 
 pub use adding::arith;
 pub use building::ObjectBuilder;
-pub use coercing::{coerce, coerce_named, put_new};
+pub use coercing::{coerce, coerce_named};
 pub use editing::edit;
 pub use relating::relate;
 pub use sets::set;

@@ -11,7 +11,7 @@ ghost use Rattle.reql_write.specs.Selecting.{IsWhole};
 
 use crate::members::field_in;
 use reql_datum::{Datum, Fault, Items, Memory, Name};
-use reql_operand::{Value, World, read_range};
+use reql_operand::{Value, World, read_slice};
 use reql_table::Table;
 use reql_term::{Bound, Range, TableView};
 use std::alloc::Global;
@@ -100,12 +100,8 @@ pub(crate) fn keys_of_value(
             rows: _,
             list,
         } => Ok(keys_in(alloc, field, list)?),
-        Value::Unread {
-            slot,
-            slice: _,
-            range,
-        } => {
-            let documents = read_range(alloc, world, *slot, range)?;
+        Value::Unread { slot, slice, range } => {
+            let documents = read_slice(alloc, world, *slot, slice, range)?;
             Ok(keys_in(alloc, field, &documents)?)
         }
         Value::Table(_) => Ok(table_keys(alloc, table)?),

@@ -6,7 +6,7 @@ use Rattle.reql_operand.specs.Tables.{view, seen}
 use Rattle.reql_apply_seq.specs.Indexes.{entries_by, entries_any}
 use Rattle.reql_apply_seq.specs.declared.spans.Span.{Span}
 use Rattle.reql_apply_seq.proofs.Entries.{span_stands}
-use Rattle.reql_apply_seq.proofs.Indexes.{any_between}
+use Rattle.reql_operand.proofs.Whole.{any_between}
 use Rattle.reql_apply_seq.proofs.spans.table_by.Goals as goal
 
 pub returns : goal.returns
