@@ -1,6 +1,7 @@
 // A feed behind the key of the only document that it looks at.
-ghost use Rattle.std.specs.Prelude.{◌≡◌, IfOk, option_map};
+ghost use Rattle.std.specs.Prelude.{◌≡◌, IfOk, not, option_map};
 ghost use Rattle.reql_datum.specs.View.{plain};
+ghost use Rattle.reql_rules.specs.Types.{same};
 ghost use Rattle.reql_feeds.specs.Only.{is_other};
 
 use crate::following::Following;
@@ -112,12 +113,30 @@ impl<F: Following> Following for Keyed<F> {
     ghost of_one = { F.of_one };
 }
 
+// Whether two keys are not the same. Numbers and texts, which most keys are, are compared here, where
+// many feeds are passed, and not by a call that walks documents.
+fn differ(key: &Datum, other: &Datum) -> bool
+    ensures { result ≡ not (same (plain key.now) (plain other.now)) }
+{
+    match key {
+        Datum::Num(n) => match other {
+            Datum::Num(m) => n.get().cmp(&m.get()).is_ne(),
+            _ => compare(key, other).is_ne(),
+        },
+        Datum::Text(s) => match other {
+            Datum::Text(t) => s.order(t.as_str()).is_ne(),
+            _ => compare(key, other).is_ne(),
+        },
+        _ => compare(key, other).is_ne(),
+    }
+}
+
 /// Whether a change is one of another document than the only one that a feed looks at.
 pub(crate) fn passes_over<F: Following>(feed: &F, change: &Change) -> bool
     ensures { result ≡ is_other (F.only feed.now) (plain change.now.key) }
 {
     match feed.only_key() {
         None => false,
-        Some(key) => !compare(key, &change.key).is_eq(),
+        Some(key) => differ(key, &change.key),
     }
 }
