@@ -77,6 +77,11 @@ pub stays_by : (b : Bool) (k n : Kept Moment Entry) (e : Entry) → b ≡ false 
 stays_by true k n e is same = absurd (true≢false is)
 stays_by false k n e is same = same_as k n same
 
+-- it keeps as many as before
+pub most_on : (b : Bool) (k n : Kept Moment Entry) (e : Entry) → GoesOn b k n e → n.most ≡ k.most
+most_on true k n e a = a.most
+most_on false k n e same = ap (λ (m : Kept Moment Entry). m.most) same
+
 -- a command that adds no entry
 pub goes_nowhere : (s : AsSaid) (k n : Kept Moment Entry) (e : Entry) → adds (feeding 0) (said_of s) ≡ false → n ≡ k → GoesOn (adds (feeding 0) (said_of s)) k n e
 goes_nowhere s k n e is same = stays_by (adds (feeding 0) (said_of s)) k n e is same

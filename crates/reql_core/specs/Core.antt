@@ -3,7 +3,7 @@ use Rattle.std.specs.Prelude.{◌≡◌, ℕ, List, map, Bool, true, false, Opti
 use Rattle.reql_datum.specs.Plain.{Plain}
 use Rattle.reql_table_machine.specs.Fed.{changes_at}
 use Rattle.reql_table_machine.specs.Feeds.{adds}
-use Rattle.reql_law.specs.Machine.{known_cmd}
+use Rattle.reql_law.specs.Machine.{State, known_cmd}
 use Rattle.reql_law.specs.Replies.{said_of}
 use Rattle.reql_law.specs.Table.{Held, DocumentTable, feeding, at_key}
 use Rattle.reql_law.specs.declared.command.Entry.{Entry}
@@ -11,7 +11,7 @@ use Rattle.reql_law.specs.declared.command.Order.{Order}
 use Rattle.reql_law.specs.declared.reply.Reply.{Reply}
 use Rattle.reql_law.specs.declared.reply.Saved.TheVariants.{Yes}
 use Rattle.reql_tail.specs.Kept.{Kept, Adds, standing}
-use Rattle.reql_core.specs.Live.{Live, table_of}
+use Rattle.reql_core.specs.Live.{Live, table_of, live_state}
 use Rattle.reql_core.specs.Moments.{stand, led_by}
 use Rattle.reql_core.specs.declared.moment.Moment.{Moment}
 
@@ -37,6 +37,10 @@ GoesOn true k n e = Adds stand_of led_by k n e
 GoesOn false k n e = IsSame k n
 
 module _ {F : Type 0} (held : F → Held) where
+  -- what contracts see of it
+  abbrev pub state_of : Core F → State
+  state_of c = live_state held c.tail.most c.live
+
   -- what a command's changes are handed over as
   abbrev pub Hands : Live F → ℕ → Order → List (Plain × Option Plain) → Type 0
   Hands old by o kept = kept ≡ map at_key (changes_at (feeding old.most) (table_of held old) by (known_cmd o.cmd))

@@ -37,8 +37,9 @@ module _ {F : Type 0} where
     abbrev pub table_of : Live F → DocumentTable
     table_of l = record { docs = documents_of l.moment.table; indexes = indexes_of l.moment.table; feeds = records held l.feeds; shut = l.shut; place = l.moment.place; stamp = l.moment.stamp }
 
-    abbrev pub state_of : Live F → State
-    state_of l = record { table = table_of l; most = l.most; sound = true; journaled = false }
+    -- what contracts see of the engine of the table, which keeps so many entries of its history and has no disk
+    abbrev pub live_state : ℕ → Live F → State
+    live_state keeps l = record { table = table_of l; most = l.most; keeps = keeps; sound = true; journaled = false }
 
     -- a command was answered so, and left this
     pub record Does (by : ℕ) (cmd : Asked) (old new : Live F) (said : Said) : Type 0 where

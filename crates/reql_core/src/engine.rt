@@ -5,8 +5,7 @@ ghost use Rattle.reql_law.specs.Engines.{seen_in};
 ghost use Rattle.reql_law.specs.Machine.{machine, unused};
 ghost use Rattle.reql_law.specs.Replies.{told_of};
 ghost use Rattle.reql_law.specs.declared.reply.Saved.TheVariants.{Yes};
-ghost use Rattle.reql_core.specs.Core.{Tells};
-ghost use Rattle.reql_core.specs.Live.{state_of};
+ghost use Rattle.reql_core.specs.Core.{Tells, state_of};
 ghost use Rattle.reql_core.specs.Saved.{never_falls, not_failed};
 
 use crate::table_core::{TableCore, adds_entry};
@@ -36,7 +35,7 @@ impl<F: Opening> Engine for TableCore<F> {
 
     ghost machine = { machine };
 
-    ghost state = { λ c. state_of F.held c.live };
+    ghost state = { state_of F.held };
 
     ghost told = { told_of };
 
@@ -44,9 +43,9 @@ impl<F: Opening> Engine for TableCore<F> {
 
     ghost tells = { Tells F.held };
 
-    ghost some_state = { unused 0 };
+    ghost some_state = { unused 0 0 };
 
-    #[tactic(auto, using(crate::proofs::Answering::replies, crate::proofs::Answering::state_after, crate::proofs::Answering::counted_one, crate::proofs::Answering::state_same, crate::proofs::Answering::none_added, crate::proofs::Tails::goes_nowhere))]
+    #[tactic(auto, using(crate::proofs::Answering::replies, crate::proofs::Answering::state_after, crate::proofs::Answering::counted_one, crate::proofs::Answering::state_same, crate::proofs::Answering::state_left, crate::proofs::Answering::none_added, crate::proofs::Tails::goes_nowhere))]
     fn apply(&mut self, by: u64, order: Order) -> Result<Reply, Refused<Order>> {
         if self.is_full() {
             let said = self.run_full(by, &order);

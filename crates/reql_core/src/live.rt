@@ -1,9 +1,10 @@
 // A table with its open feeds.
 ghost use Rattle.std.specs.Prelude.{◌≡◌, [], IfOk};
 ghost use Rattle.reql_table.specs.Seen.{documents_of, indexes_of};
+ghost use Rattle.reql_table_machine.specs.Feeds.{look};
 ghost use Rattle.reql_law.specs.Engines.{seen_in};
-ghost use Rattle.reql_law.specs.Machine.{seen};
-ghost use Rattle.reql_core.specs.Live.{state_of};
+ghost use Rattle.reql_law.specs.Table.{feeding};
+ghost use Rattle.reql_core.specs.Live.{table_of};
 
 use crate::moment::Moment;
 use reql_feeds::Feeds;
@@ -89,7 +90,7 @@ impl<F: Opening> LiveTable<F> {
     /// A look at all that it holds now.
     pub(crate) fn look(&self) -> Result<Look<Table>, Memory>
         ensures { IfOk result (λ l. seen_in documents_of indexes_of l
-            ≡ seen (state_of F.held self.now)) }
+            ≡ look (feeding self.now.most) (table_of F.held self.now)) }
     {
         let place = self.moment.place;
         let stamp = self.moment.stamp;

@@ -7,8 +7,8 @@ ghost use Rattle.reql_law.specs.Machine.{known_cmd, opened, unused};
 ghost use Rattle.reql_law.specs.Replies.{said_of};
 ghost use Rattle.reql_law.specs.Table.{feeding};
 ghost use Rattle.reql_tail.specs.Kept.{IsKept, standing};
-ghost use Rattle.reql_core.specs.Core.{Hands, IsSame, GoesOn, stand_of, IsTail};
-ghost use Rattle.reql_core.specs.Live.{Does, state_of};
+ghost use Rattle.reql_core.specs.Core.{Hands, IsSame, GoesOn, stand_of, state_of, IsTail};
+ghost use Rattle.reql_core.specs.Live.{Does};
 ghost use Rattle.reql_core.specs.Moments.{led_by};
 
 use crate::live::LiveTable;
@@ -102,7 +102,7 @@ impl<F: Opening> TableCore<F> {
     /// An engine that nobody has used, over an empty table.
     pub fn new(alloc: Global, limits: &Limits) -> Result<TableCore<F>, Memory>
         requires { 2 ≤ limits.now.tail }
-        ensures state { IfOk result (λ c. state_of F.held c.live ≡ unused limits.now.feeds) }
+        ensures state { IfOk result (λ c. state_of F.held c ≡ unused limits.now.feeds limits.now.tail) }
         ensures base { IfOk result (λ c. c.tail.base ≡ c.tail.opening) }
         ensures most { IfOk result (λ c. c.tail.most ≡ limits.now.tail) }
         ensures entries { IfOk result (λ c. c.tail.entries ≡ []) }
@@ -120,8 +120,8 @@ impl<F: Opening> TableCore<F> {
         limits: &Limits,
     ) -> Result<TableCore<F>, Memory>
         requires { 2 ≤ limits.now.tail }
-        ensures state { IfOk result (λ c. state_of F.held c.live
-            ≡ opened limits.now.feeds (documents_of table) (indexes_of table) shut) }
+        ensures state { IfOk result (λ c. state_of F.held c ≡ opened limits.now.feeds
+            limits.now.tail (documents_of table) (indexes_of table) shut) }
         ensures base { IfOk result (λ c. c.tail.base ≡ record { table = table; place = 0; stamp = 0 }) }
         ensures opening { IfOk result (λ c. c.tail.opening ≡ c.tail.base) }
         ensures most { IfOk result (λ c. c.tail.most ≡ limits.now.tail) }

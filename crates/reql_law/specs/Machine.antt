@@ -19,11 +19,12 @@ use Rattle.reql_law.specs.declared.command.Entry.{Entry}
 use Rattle.reql_law.specs.declared.command.FeedSpec.{FeedSpec}
 use Rattle.reql_law.specs.declared.command.Order.{Order}
 
--- what contracts see of the engine of a table: the table; how many feeds may be open; and, fixed when it is made, whether its disk never
--- fails, and whether it has one
+-- what contracts see of the engine of a table: the table; how many feeds may be open, and how many entries of its history are kept; and,
+-- fixed when it is made, whether its disk never fails, and whether it has one
 pub record State : Type 0 where
   pub table : DocumentTable
   pub most : ℕ
+  pub keeps : ℕ
   pub sound : Bool
   pub journaled : Bool
 
@@ -73,8 +74,8 @@ abbrev pub machine : Machine State Order Answered Snap Seen
 machine = record { reply = reply; recorded = is_recorded; after = after; answer = λ s q. seen s; place = λ s. s.table.place }
 
 -- an engine without a disk that nobody has used: over a table that was kept, which may have been dropped, and over an empty one
-abbrev pub opened : ℕ → List Document → Indexes → Bool → State
-opened most docs indexes shut = record { table = record (opening docs indexes) { shut = shut }; most = most; sound = true; journaled = false }
+abbrev pub opened : ℕ → ℕ → List Document → Indexes → Bool → State
+opened most keeps docs indexes shut = record { table = record (opening docs indexes) { shut = shut }; most = most; keeps = keeps; sound = true; journaled = false }
 
-abbrev pub unused : ℕ → State
-unused most = opened most [] [] false
+abbrev pub unused : ℕ → ℕ → State
+unused most keeps = opened most keeps [] [] false

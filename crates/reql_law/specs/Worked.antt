@@ -41,7 +41,7 @@ abbrev told : ℕ → ℕ → Said Summary Plain → Answered
 told place stamp x = record { place = place; stamp = stamp; said = x }
 
 abbrev fresh : State
-fresh = unused 2
+fresh = unused 2 2
 
 -- ---- writes
 abbrev write : Returns → Act → Cmd

@@ -12,8 +12,9 @@ use reql_table_machine::Look;
 use reql_term::TableView;
 use std::marker::Model;
 
-/// What contracts see of the engine of a table: its table, how many feeds may be open, and, fixed
-/// when it is made, whether its disk never fails and whether it has one. No value of it is made.
+/// What contracts see of the engine of a table: its table, how many feeds may be open, how many
+/// entries of its history are kept, and, fixed when it is made, whether its disk never fails and
+/// whether it has one. No value of it is made.
 pub struct MachineState {
     nothing: (),
 }
@@ -28,7 +29,7 @@ impl Model for MachineState {
 
     ghost coded = { Prim.hlevel (codes, plain_code, list_code, pairs_code, form_code) };
 
-    ghost view = { λ s. unused 0 };
+    ghost view = { λ s. unused 0 0 };
 }
 
 /// The engine of a table: its replies and answers are those of the table machine.

@@ -18,5 +18,5 @@ module _ {E NE : Type 0} (state : E → State) (known : NE → Catalog) where
   pub has_slot : (workers : List (AtEnd MemRecord)) (hall : Closed E Order State NE CatCmd Catalog) → IsServed state known workers hall → 0 < length hall.slots
   has_slot workers hall s =
       let rooms = ap (λ (r : Rooms State Catalog). length r.slots) s.served.closed in
-      let starts = ap length s.served.opens.slots ∙ length-replicate usual_limits.slots (unused usual_limits.feeds) in
+      let starts = ap length s.served.opens.slots ∙ length-replicate usual_limits.slots (unused usual_limits.feeds usual_limits.tail) in
       omega (arith, counted (λ (f : Closing E Order State). f.object) hall.slots, rooms, counted (λ (o : Object State). o.start) s.served.hall.slots, starts)

@@ -71,7 +71,7 @@ lines t = codes "documents " ++ decimal t.documents ++ codes "\nchanges " ++ dec
 pub record Reports {E NE : Type 0} (state : E → State) (kept : E → Kept Moment Entry) (seed size : ℕ) (members : List (List (Member MemRecord))) (hall : Closed E Order State NE CatCmd Catalog) (text : List ℕ) : Type 0 where
   pub whole : (session : ℕ) (ms : List (Member MemRecord)) → session < 5 → ServedWhole (script_of seed size session) (slice_index_or members session ms)
   pub tally : Tally
-  pub counted : (f : Closing E Order State) → Found usual_limits.feeds (kept (slice_index_or hall.slots 0 f).engine) (state (slice_index_or hall.slots 0 f).engine) tally
+  pub counted : (f : Closing E Order State) → Found usual_limits.feeds usual_limits.tail (kept (slice_index_or hall.slots 0 f).engine) (state (slice_index_or hall.slots 0 f).engine) tally
   pub printed : text ≡ lines tally
 
 -- It is printed whole, or the sink fails; or nothing is printed, since a session was not whole, or there is nothing to count, or memory was wanted.

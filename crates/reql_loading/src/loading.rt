@@ -1,7 +1,7 @@
 // A load, from its words to what it prints.
 ghost use Rattle.std.specs.Prelude.{◌<◌, length, map, string_bytes, IfOk, IfSome, MatchOption};
 ghost use Rattle.reql_words.specs.Words.{asks};
-ghost use Rattle.reql_core.specs.Live.{state_of};
+ghost use Rattle.reql_core.specs.Core.{state_of};
 ghost use Rattle.reql_open_feed.specs.Open.{held_in};
 ghost use Rattle.reql_serve.specs.Many.{at_end};
 ghost use Rattle.reql_loading.specs.Loading.{IsServed, Loads, Prints, Reports, Unloaded};
@@ -36,7 +36,7 @@ pub struct Loaded {
 fn serve_load<R>(rt: &R, alloc: Global, seed: u32, size: u32) -> Result<Many<Core, MemDoor>, Memory>
 where
     R: Threads + Wait + Sync,
-    ensures { IfOk result (λ many. IsServed (λ c. state_of held_in c.live) (λ n. n)
+    ensures { IfOk result (λ many. IsServed (state_of held_in) (λ n. n)
         (map (λ w. at_end w.door.told w.ended.items w.left w.state) many.workers.items) many.hall) }
 {
     let posts = posts(alloc, seed, size)?;
@@ -53,7 +53,7 @@ fn report(
     many: &Many<Core, MemDoor>,
 ) -> Result<Option<String>, Memory>
     requires { 0 < length many.now.hall.slots }
-    ensures { IfOk result (λ r. IfSome r (λ text. Reports (λ c. state_of held_in c.live) (λ c. c.tail) seed size
+    ensures { IfOk result (λ r. IfSome r (λ text. Reports (state_of held_in) (λ c. c.tail) seed size
         (map (λ w. w.ended.items) many.now.workers.items) many.now.hall (string_bytes text))) }
 {
     if !are_whole(alloc, seed, size, &many.workers)? {
@@ -75,7 +75,7 @@ fn print<K: Sink>(
     out: &mut K,
 ) -> u8
     requires { 0 < length many.now.hall.slots }
-    ensures { Prints (λ c. state_of held_in c.live) (λ c. c.tail) seed size (map (λ w. w.ended.items) many.now.workers.items)
+    ensures { Prints (state_of held_in) (λ c. c.tail) seed size (map (λ w. w.ended.items) many.now.workers.items)
         many.now.hall (K.told out.old) (K.told out.new) result }
 {
     match report(alloc, seed, size, many) {
@@ -101,7 +101,7 @@ where
     R: Threads + Wait + Sync,
     ensures { MatchOption result.ended
         (Unloaded (asks (map string_bytes words.now)) (K.told out.old) (K.told out.new) result.status)
-        (λ many. Loads (λ c. state_of held_in c.live) (λ n. n) (λ c. c.tail)
+        (λ many. Loads (state_of held_in) (λ n. n) (λ c. c.tail)
         (asks (map string_bytes words.now)) (K.told out.old) (K.told out.new) result.status
         (map (λ w. at_end w.door.told w.ended.items w.left w.state) many.workers.items) many.hall) }
 {

@@ -37,5 +37,5 @@ serves state known asked status key tables clock dice tape end turns hall handle
       let c = closes key usual_limits _ _ x.explained more frames small valid last in
       closes_by (talk key usual_limits) (life_of x.given x.sent x.idle tape.over served.served.moments served.served.rolls turns end) more end tape.idles tape.faults_in tape.faults_out frames (begun x.explained.events) c.left
       x.idles x.faults_in x.faults_out none_in none_out most few c.first c.ends;
-  fed = λ seen slot feed stamp after o n. holds key usual_limits seen _ _ (λ t. are_good served.hall usual_limits.slots usual_limits.feeds t served.opens.slots) (λ t. no_feeds served.hall usual_limits.slots usual_limits.feeds t served.opens.slots) slot feed stamp after o n;
+  fed = λ seen slot feed stamp after o n. holds key usual_limits seen _ _ (λ t. are_good served.hall usual_limits.slots usual_limits.feeds usual_limits.tail t served.opens.slots) (λ t. no_feeds served.hall usual_limits.slots usual_limits.feeds usual_limits.tail t served.opens.slots) slot feed stamp after o n;
 }

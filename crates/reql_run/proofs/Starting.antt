@@ -24,22 +24,22 @@ one_of P zero u d t pu pd = pd
 one_of P (suc n) u d zero pu pd = pu
 one_of P (suc n) u d (suc t) pu pd = one_of P n u d t pu pd
 
-pub at_start : (P : State → Type 0) (hall : Rooms State Catalog) (n most : ℕ) (t : ℕ) → map (λ (o : Object State). o.start) hall.slots ≡ replicate n (unused most)
-    → P (unused most) → P (unused 0) → P (pass (unused 0) (desk hall) t).object.start
-at_start P hall n most t is pu pd =
-    subst P (sym (start_at hall.slots 0 _ t)) (subst (λ ss. P (slice_index_or ss t (unused 0))) (sym is) (one_of P n (unused most) (unused 0) t pu pd))
+pub at_start : (P : State → Type 0) (hall : Rooms State Catalog) (n most keeps : ℕ) (t : ℕ) → map (λ (o : Object State). o.start) hall.slots ≡ replicate n (unused most keeps)
+    → P (unused most keeps) → P (unused 0 0) → P (pass (unused 0 0) (desk hall) t).object.start
+at_start P hall n most keeps t is pu pd =
+    subst P (sym (start_at hall.slots 0 _ t)) (subst (λ ss. P (slice_index_or ss t (unused 0 0))) (sym is) (one_of P n (unused most keeps) (unused 0 0) t pu pd))
 
-good : (most : ℕ) → AreGood (unused most).table.docs
+good : (most keeps : ℕ) → AreGood (unused most keeps).table.docs
 unfolding IsStrictlySortedBy
-good most = record { rising = tt; real = tt }
+good most keeps = record { rising = tt; real = tt }
 
-pub are_good : (hall : Rooms State Catalog) (n most t : ℕ) → map (λ (o : Object State). o.start) hall.slots ≡ replicate n (unused most)
-    → AreGood (pass (unused 0) (desk hall) t).object.start.table.docs
-are_good hall n most t is = at_start (λ s. AreGood s.table.docs) hall n most t is (good most) (good 0)
+pub are_good : (hall : Rooms State Catalog) (n most keeps t : ℕ) → map (λ (o : Object State). o.start) hall.slots ≡ replicate n (unused most keeps)
+    → AreGood (pass (unused 0 0) (desk hall) t).object.start.table.docs
+are_good hall n most keeps t is = at_start (λ s. AreGood s.table.docs) hall n most keeps t is (good most keeps) (good 0 0)
 
-pub no_feeds : (hall : Rooms State Catalog) (n most t : ℕ) → map (λ (o : Object State). o.start) hall.slots ≡ replicate n (unused most)
-    → (pass (unused 0) (desk hall) t).object.start.table.feeds ≡ []
-no_feeds hall n most t is = at_start (λ s. s.table.feeds ≡ []) hall n most t is refl refl
+pub no_feeds : (hall : Rooms State Catalog) (n most keeps t : ℕ) → map (λ (o : Object State). o.start) hall.slots ≡ replicate n (unused most keeps)
+    → (pass (unused 0 0) (desk hall) t).object.start.table.feeds ≡ []
+no_feeds hall n most keeps t is = at_start (λ s. s.table.feeds ≡ []) hall n most keeps t is refl refl
 
 head_or : {A : Type 0} → A → List A → A
 head_or d [] = d
@@ -57,5 +57,5 @@ each P f u pu (x ∷ xs) (suc n) e zero d lt = subst P (sym (ap (head_or u) e)) 
 each P f u pu (x ∷ xs) (suc n) e (suc i) d lt = each P f u pu xs n (ap tail_of e) i d (omega (arith, lt))
 
 -- engines that nobody has used are at place 0
-pub all_unused : {A : Type 0} (f : A → State) (most : ℕ) (xs : List A) (n : ℕ) → map f xs ≡ replicate n (unused most) → All (λ x. machine.place (f x) ≡ 0) xs
-all_unused f most xs n e = λ i d lt. each (λ s. machine.place s ≡ 0) f (unused most) refl xs n e i d lt
+pub all_unused : {A : Type 0} (f : A → State) (most keeps : ℕ) (xs : List A) (n : ℕ) → map f xs ≡ replicate n (unused most keeps) → All (λ x. machine.place (f x) ≡ 0) xs
+all_unused f most keeps xs n e = λ i d lt. each (λ s. machine.place s ≡ 0) f (unused most keeps) refl xs n e i d lt

@@ -42,11 +42,11 @@ IsFreshPost post = post.door ≡ untouched
 abbrev pub IsSoundPost : Outside → Type 0
 IsSoundPost post = (post.dice.sound ≡ true) × (post.clock.sound ≡ true)
 
--- So many sessions of these posts, told of plans in ReQL, at a hall that knows these tables and whose engines are unused.
+-- So many sessions of these posts, told of plans in ReQL, at a hall that knows these tables and whose engines are unused, of the usual limits.
 abbrev pub AreServed : {E NE R : Type 0} → (E → State) → (NE → Catalog) → (R → Tape) → List ℕ → List (List ℕ × List ℕ) → List Outside → ℕ → List (AtEnd R) → Closed E Order State NE CatCmd Catalog → Type 0
 AreServed state known tape key tables posts sessions workers hall =
-    ServesMany (talk key usual_limits) (unused 0) tape state known (opening tables usual_limits.slots)
-    (replicate usual_limits.slots (unused usual_limits.feeds)) posts sessions workers hall
+    ServesMany (talk key usual_limits) (unused 0 0) tape state known (opening tables usual_limits.slots)
+    (replicate usual_limits.slots (unused usual_limits.feeds usual_limits.tail)) posts sessions workers hall
 
 -- The sessions that came to a port of a net. It is asked once, for this port and for so many posts, and gives them; nobody has used
 -- them, and their clocks and dice never fail where it is sound. Each of them has a worker.

@@ -16,11 +16,11 @@ use Rattle.reql_words.specs.Words.{Asks, Stdio}
 use Rattle.reql_run.specs.Endings.{status_of}
 use Rattle.reql_run.specs.Holding.{IsComplete, IsLate, ClosesWhole, AreFed}
 
--- One session, told of plans in ReQL, at the one desk of a hall that knows these tables and whose engines are unused.
+-- One session, told of plans in ReQL, at the one desk of a hall that knows these tables and whose engines are unused, of the usual limits.
 abbrev pub IsServed : {E NE : Type 0} → (E → State) → (NE → Catalog) → List ℕ → List (List ℕ × List ℕ) → Source ℤ → Source (List ℕ) → Tape → End → ℕ → Closed E Order State NE CatCmd Catalog → Type 0
 IsServed state known key tables clock dice tape end turns hall =
-    ServesOne (talk key usual_limits) (unused 0) state known (opening tables usual_limits.slots)
-    (replicate usual_limits.slots (unused usual_limits.feeds)) clock dice tape end turns hall
+    ServesOne (talk key usual_limits) (unused 0 0) state known (opening tables usual_limits.slots)
+    (replicate usual_limits.slots (unused usual_limits.feeds usual_limits.tail)) clock dice tape end turns hall
 
 -- The words ask for a session with a key and tables, it is served, and the status is that of its end; nothing of its input
 -- is missing, its turns were used up by so much input alone, a valid input over a link without a fault is handled whole and

@@ -3,7 +3,7 @@ ghost use Rattle.std.specs.Prelude.{◌≡◌, map, string_bytes, replicate, IfO
 ghost use Rattle.reql_catalog.specs.Machine.{opening};
 ghost use Rattle.reql_law.specs.Limits.{usual_limits};
 ghost use Rattle.reql_words.specs.Words.{asks, named, Listen};
-ghost use Rattle.reql_core.specs.Live.{state_of};
+ghost use Rattle.reql_core.specs.Core.{state_of};
 ghost use Rattle.reql_open_feed.specs.Open.{held_in};
 ghost use Rattle.reql_law.specs.Laws.{DocsAtStamp, StampCounts};
 ghost use Rattle.reql_law.specs.Terms.{PointsShowTheirTerms, RangesShowTheirTerms, LimitsShowTheirTerms};
@@ -89,7 +89,7 @@ where
     <G::Link as Link>::Record: Drop + Send,
     D: Dice + Drop + Send,
     T: Clock + Drop + Send,
-    ensures { IfOk result (λ many. AreServed (λ c. state_of held_in c.live) (λ n. n) G.Link.kept key.now (map named tables.now)
+    ensures { IfOk result (λ many. AreServed (state_of held_in) (λ n. n) G.Link.kept key.now (map named tables.now)
         (map (λ p. outside (T.told p.clock) (D.told p.dice) (G.told p.door)) posts.items) sessions
         (map (λ w. at_end (G.told w.door) w.ended.items w.left w.state) many.workers.items) many.hall) }
 {
@@ -121,7 +121,7 @@ where
     <<N::Door as Door>::Link as Link>::Record: Drop + Send,
     N::Dice: Drop + Send,
     N::Clock: Drop + Send,
-    ensures came { IfOk result (λ many. ComesTo (λ c. state_of held_in c.live) (λ n. n) N.Door.Link.kept port workers sessions
+    ensures came { IfOk result (λ many. ComesTo (state_of held_in) (λ n. n) N.Door.Link.kept port workers sessions
         key.now (map named tables.now) (N.told net.old) (N.told net.new)
         (map (λ w. at_end (N.Door.told w.door) w.ended.items w.left w.state) many.workers.items) many.hall) }
     ensures failed { IfErr result (Counts (N.told net.old) (N.told net.new) port workers) }
@@ -150,7 +150,7 @@ where
     N::Clock: Drop + Send,
     ensures listens { MatchOption result.ended
         (Unheard (asks (map string_bytes words.now)) (N.told net.old) (N.told net.new) result.status)
-        (λ many. Listens (λ c. state_of held_in c.live) (λ n. n) N.Door.Link.kept (asks (map string_bytes words.now))
+        (λ many. Listens (state_of held_in) (λ n. n) N.Door.Link.kept (asks (map string_bytes words.now))
         (N.told net.old) (N.told net.new) result.status
         (map (λ w. at_end (N.Door.told w.door) w.ended.items w.left w.state) many.workers.items) many.hall) }
     ensures in_order { AllInOrder }

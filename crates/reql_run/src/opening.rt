@@ -2,7 +2,7 @@
 ghost use Rattle.std.specs.Prelude.{◌≡◌, ◌≤◌, map, replicate, IfOk};
 ghost use Rattle.reql_law.specs.Machine.{unused};
 ghost use Rattle.reql_words.specs.Words.{named};
-ghost use Rattle.reql_core.specs.Live.{state_of};
+ghost use Rattle.reql_core.specs.Core.{state_of};
 
 use reql_core::{Opening, TableCore};
 use reql_datum::Name;
@@ -27,8 +27,8 @@ pub(crate) fn engines<F: Opening>(
     limits: &Limits,
 ) -> Result<Vec<TableCore<F>>, Memory>
     requires { 2 ≤ limits.now.tail }
-    ensures { IfOk result (λ all. map (λ c. state_of F.held c.live) all.items
-        ≡ replicate limits.now.slots (unused limits.now.feeds)) }
+    ensures { IfOk result (λ all. map (state_of F.held) all.items
+        ≡ replicate limits.now.slots (unused limits.now.feeds limits.now.tail)) }
 {
     let mut all = Vec::new(alloc);
     for _ in 0..limits.slots {

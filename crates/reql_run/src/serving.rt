@@ -2,7 +2,7 @@
 ghost use Rattle.std.specs.Prelude.{◌≡◌, map, string_bytes, IfOk, MatchOption};
 ghost use Rattle.reql_outside.specs.Tape.{IsFresh};
 ghost use Rattle.reql_words.specs.Words.{asks, named};
-ghost use Rattle.reql_core.specs.Live.{state_of};
+ghost use Rattle.reql_core.specs.Core.{state_of};
 ghost use Rattle.reql_open_feed.specs.Open.{held_in};
 ghost use Rattle.reql_law.specs.Laws.{DocsAtStamp, StampCounts};
 ghost use Rattle.reql_law.specs.Terms.{PointsShowTheirTerms, RangesShowTheirTerms, LimitsShowTheirTerms};
@@ -34,7 +34,7 @@ fn serve<R: Wait, L: Link + Drop, D: Dice + Drop, T: Clock + Drop>(
     clock: T,
 ) -> Result<Ended<Core, L::Record>, Memory>
     requires fresh { IsFresh (L.tape stdio) }
-    ensures { IfOk result (λ ended. IsServed (λ c. state_of held_in c.live) (λ n. n) key.now (map named tables.now) (T.told clock) (D.told dice)
+    ensures { IfOk result (λ ended. IsServed (state_of held_in) (λ n. n) key.now (map named tables.now) (T.told clock) (D.told dice)
         (L.kept ended.session.tape) ended.session.end ended.session.turns ended.hall) }
 {
     let limits = Limits::usual();
@@ -67,7 +67,7 @@ pub fn run<R: Wait, L: Link + Drop, D: Dice + Drop, T: Clock + Drop>(
     requires fresh { IsFresh (L.tape stdio) }
     ensures served { MatchOption result.ended
         (Unserved (asks (map string_bytes words.now)) result.status)
-        (λ ended. Serves (λ c. state_of held_in c.live) (λ n. n) (asks (map string_bytes words.now)) result.status (T.told clock) (D.told dice)
+        (λ ended. Serves (state_of held_in) (λ n. n) (asks (map string_bytes words.now)) result.status (T.told clock) (D.told dice)
         (L.kept ended.session.tape) ended.session.end ended.session.turns ended.hall) }
     ensures in_order { AllInOrder }
     ensures frames_handled { AllFramesHandled }

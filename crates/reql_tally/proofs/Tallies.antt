@@ -116,11 +116,11 @@ pub gone_opens : (s : State) (by : ℕ) (order : Order) (spec : FeedSpec) (numbe
 gone_opens s by order spec number k is n some shut = not_gone some (n ∙ gone_opens_none s by order spec is shut)
 
 -- ---- the four numbers
-pub counts : (most : ℕ) (es : List Entry) (cs : List Kept) (t : Tally) → map kept_of cs ≡ made (unused most) es → t.documents ≡ length (changed_by [] (map kept_of cs)) → t.changes ≡ length cs
-    → t.feeds ≡ length (feeds_opened (unused most) es) → IsCount (FoldsUp (unused most) es) (feeds_opened (unused most) es) t.folds → Counts (unused most) es t
-counts most es cs t is documents changes feeds folds = record {
-  documents = documents ∙ ap (λ z. length (changed_by [] z)) is ∙ ap length (all_docs (unused most) es);
-  changes = changes ∙ sym (length-map cs kept_of) ∙ ap length is ∙ all_stamps (unused most) es refl;
+pub counts : (most keeps : ℕ) (es : List Entry) (cs : List Kept) (t : Tally) → map kept_of cs ≡ made (unused most keeps) es → t.documents ≡ length (changed_by [] (map kept_of cs)) → t.changes ≡ length cs
+    → t.feeds ≡ length (feeds_opened (unused most keeps) es) → IsCount (FoldsUp (unused most keeps) es) (feeds_opened (unused most keeps) es) t.folds → Counts (unused most keeps) es t
+counts most keeps es cs t is documents changes feeds folds = record {
+  documents = documents ∙ ap (λ z. length (changed_by [] z)) is ∙ ap length (all_docs (unused most keeps) es);
+  changes = changes ∙ sym (length-map cs kept_of) ∙ ap length is ∙ all_stamps (unused most keeps) es refl;
   feeds = feeds;
   folds = folds;
 }

@@ -65,15 +65,15 @@ Ends s t true = stands s t ≡ true
 Ends s t false = (s.table.shut ≡ true) ⊎ (stands s t ≡ false)
 
 -- What is kept begins with an empty table, and its entries count to this, where the table stands.
-pub record Found (most : ℕ) (k : Kept Moment Entry) (s : State) (t : Tally) : Type 0 where
+pub record Found (most keeps : ℕ) (k : Kept Moment Entry) (s : State) (t : Tally) : Type 0 where
   pub begins : begins k.base ≡ true
-  pub counts : Counts (unused most) k.entries t
+  pub counts : Counts (unused most keeps) k.entries t
   pub stands : stands s t ≡ true
 
 -- What is kept doesn't begin so; or the table was dropped, or isn't where the entries count to.
-abbrev pub HasNone : ℕ → Kept Moment Entry → State → Type 0
-HasNone most k s = (begins k.base ≡ false) ⊎ ((t : Tally) × Counts (unused most) k.entries t × Ends s t false)
+abbrev pub HasNone : ℕ → ℕ → Kept Moment Entry → State → Type 0
+HasNone most keeps k s = (begins k.base ≡ false) ⊎ ((t : Tally) × Counts (unused most keeps) k.entries t × Ends s t false)
 
-abbrev pub Tallies : ℕ → Kept Moment Entry → State → Option Tally → Type 0
-Tallies most k s None = HasNone most k s
-Tallies most k s (Some t) = Found most k s t
+abbrev pub Tallies : ℕ → ℕ → Kept Moment Entry → State → Option Tally → Type 0
+Tallies most keeps k s None = HasNone most keeps k s
+Tallies most keeps k s (Some t) = Found most keeps k s t

@@ -160,14 +160,14 @@ pub(crate) fn count<F: Opening>(
 ) -> Result<FeedCount, Memory>
     requires tail { 2 ≤ limits.now.tail }
     requires changes { map kept_of heard.now.changes.items
-        ≡ made (unused limits.now.feeds) (older.now ++ newer.now) }
+        ≡ made (unused limits.now.feeds limits.now.tail) (older.now ++ newer.now) }
     requires batches { map given heard.now.batches.items
-        ≡ batches_taken (unused limits.now.feeds) (older.now ++ newer.now) }
+        ≡ batches_taken (unused limits.now.feeds limits.now.tail) (older.now ++ newer.now) }
     ensures feeds { IfOk result (λ c. c.feeds
-        ≡ length (feeds_opened (unused limits.now.feeds) (older.now ++ newer.now))) }
+        ≡ length (feeds_opened (unused limits.now.feeds limits.now.tail) (older.now ++ newer.now))) }
     ensures folds { IfOk result (λ c. IsCount
-        (FoldsUp (unused limits.now.feeds) (older.now ++ newer.now))
-        (feeds_opened (unused limits.now.feeds) (older.now ++ newer.now)) c.folds) }
+        (FoldsUp (unused limits.now.feeds limits.now.tail) (older.now ++ newer.now))
+        (feeds_opened (unused limits.now.feeds limits.now.tail) (older.now ++ newer.now)) c.folds) }
 {
     let mut replica: Replica<F> = Replica::new(alloc, limits)?;
     let mut count = FeedCount { feeds: 0, folds: 0 };

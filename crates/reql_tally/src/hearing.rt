@@ -156,9 +156,9 @@ pub(crate) fn hear<F: Opening>(
 ) -> Result<Heard, Memory>
     requires { 2 ≤ limits.now.tail }
     ensures changes { IfOk result (λ h. map kept_of h.changes.items
-        ≡ made (unused limits.now.feeds) (older.now ++ newer.now)) }
+        ≡ made (unused limits.now.feeds limits.now.tail) (older.now ++ newer.now)) }
     ensures batches { IfOk result (λ h. map given h.batches.items
-        ≡ batches_taken (unused limits.now.feeds) (older.now ++ newer.now)) }
+        ≡ batches_taken (unused limits.now.feeds limits.now.tail) (older.now ++ newer.now)) }
 {
     let mut replica: Replica<F> = Replica::new(alloc, limits)?;
     let mut heard = Heard {

@@ -6,7 +6,7 @@ ghost use Rattle.reql_law.specs.Engines.{kept_of, seen_in};
 ghost use Rattle.reql_law.specs.Machine.{State, after, reply, seen, unused, known_cmd};
 ghost use Rattle.reql_law.specs.Replies.{said_of};
 ghost use Rattle.reql_law.specs.Table.{feeding, at_key};
-ghost use Rattle.reql_core.specs.Live.{state_of};
+ghost use Rattle.reql_core.specs.Core.{state_of};
 ghost use Rattle.reql_tally.specs.Views.{IsSeen};
 
 use crate::copies::copied;
@@ -30,13 +30,13 @@ impl<F: Opening> Model for Replica<F> {
     ghost use Rattle.reql_datum.specs.Code.{plain_code, list_code, pairs_code};
     ghost use Rattle.reql_term.specs.FormCode.{form_code};
     ghost use Rattle.reql_law.specs.Machine.{State};
-    ghost use Rattle.reql_core.specs.Live.{state_of};
+    ghost use Rattle.reql_core.specs.Core.{state_of};
 
     ghost Value = { State };
 
     ghost coded = { Prim.hlevel (codes, plain_code, list_code, pairs_code, form_code) };
 
-    ghost view = { λ r. state_of F.held r.core.live };
+    ghost view = { λ r. state_of F.held r.core };
 }
 
 /// What an entry was answered, and the changes that it made.
@@ -69,7 +69,7 @@ fn table_in(look: Look<Table>) -> Option<SeenTable>
 
 /// Looks at the table of an engine, if it wasn't dropped.
 pub(crate) fn looked<F: Opening>(engine: &TableCore<F>) -> Result<Option<SeenTable>, Memory>
-    ensures { IfOk result (IsSeen (state_of F.held engine.now.live)) }
+    ensures { IfOk result (IsSeen (state_of F.held engine.now)) }
 {
     let look = engine.ask(&Snap)?;
     let seen = table_in(look);
@@ -80,7 +80,7 @@ impl<F: Opening> Replica<F> {
     /// An empty table that nobody has used.
     pub(crate) fn new(alloc: Global, limits: &Limits) -> Result<Replica<F>, Memory>
         requires { 2 ≤ limits.now.tail }
-        ensures { IfOk result (λ r. r ≡ unused limits.now.feeds) }
+        ensures { IfOk result (λ r. r ≡ unused limits.now.feeds limits.now.tail) }
     {
         let core = TableCore::new(alloc, limits)?;
         Ok(Replica { alloc, core })

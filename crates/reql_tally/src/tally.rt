@@ -3,7 +3,7 @@ ghost use Rattle.std.specs.Prelude.{◌≡◌, ◌≤◌, [], ◌++◌, map, len
 ghost use Rattle.reql_feed_law.specs.Feeds.{changed_by};
 ghost use Rattle.reql_law.specs.Engines.{kept_of};
 ghost use Rattle.reql_law.specs.Machine.{State, unused};
-ghost use Rattle.reql_core.specs.Live.{state_of};
+ghost use Rattle.reql_core.specs.Core.{state_of};
 ghost use Rattle.reql_tally.specs.Tallied.{Counts, Ends, Tallies, begins as begins_of, is_empty as is_empty_of};
 ghost use Rattle.reql_tally.specs.Views.{IsTable};
 
@@ -47,7 +47,7 @@ fn tally_of<F: Opening>(
     limits: &Limits,
 ) -> Result<Tally, Memory>
     requires { 2 ≤ limits.now.tail }
-    ensures { IfOk result (Counts (unused limits.now.feeds) (older.now ++ newer.now)) }
+    ensures { IfOk result (Counts (unused limits.now.feeds limits.now.tail) (older.now ++ newer.now)) }
 {
     let heard = hear::<F>(alloc, older, newer, limits)?;
     let documents = documents_after(alloc, &heard.changes)?;
@@ -91,7 +91,7 @@ fn is_there(seen: &SeenTable, tally: &Tally) -> Result<bool, Memory>
 // Whether the table of an engine does.
 #[tactic(auto, using(crate::proofs::Tallies::ends_dropped))]
 fn stands<F: Opening>(engine: &TableCore<F>, tally: &Tally) -> Result<bool, Memory>
-    ensures { IfOk result (Ends (state_of F.held engine.now.live) tally.now) }
+    ensures { IfOk result (Ends (state_of F.held engine.now) tally.now) }
 {
     match looked(engine)? {
         Some(seen) => is_there(&seen, tally),
@@ -108,8 +108,8 @@ pub fn tally_history<F: Opening>(
     limits: &Limits,
 ) -> Result<Option<Tally>, Memory>
     requires { 2 ≤ limits.now.tail }
-    ensures { IfOk result (Tallies limits.now.feeds engine.now.tail
-        (state_of F.held engine.now.live)) }
+    ensures { IfOk result (Tallies limits.now.feeds limits.now.tail engine.now.tail
+        (state_of F.held engine.now)) }
 {
     let Base {
         place,

@@ -4,7 +4,7 @@ use Rattle.reql_catalog.specs.Machine.{opening}
 use Rattle.reql_law.specs.Limits.{usual_limits}
 use Rattle.reql_law.specs.Machine.{unused}
 use Rattle.reql_told.specs.Told.{talk}
-use Rattle.reql_core.specs.Live.{state_of}
+use Rattle.reql_core.specs.Core.{state_of}
 use Rattle.reql_open_feed.specs.Open.{held_in}
 use Rattle.reql_serve.specs.Serving.{ServesOne}
 use Rattle.reql_words.specs.Words.{named}
@@ -13,11 +13,11 @@ use Rattle.reql_run.proofs.Starting.{all_unused}
 use Rattle.reql_run.proofs.serving.serve.Goals as goal
 
 pub serve_one-requires-clause-slots_unused : goal.serve_one-requires-clause-slots_unused
-serve_one-requires-clause-slots_unused g c = all_unused (λ c. state_of held_in c.live) _ c.in_ok-engines.engines.items _ c.in_ok-engines.ensures
+serve_one-requires-clause-slots_unused g c = all_unused (state_of held_in) _ _ c.in_ok-engines.engines.items _ c.in_ok-engines.ensures
 
 pub returns : goal.returns
 returns g c =
-    moved (λ k l n es. IfOk c.serve_one.result (λ ended. ServesOne (talk k l) (unused 0) (λ c. state_of held_in c.live) (λ n. n) n es (g.T.Clock.told c.args.clock) (g.D.Dice.told c.args.dice) (g.L.Link.kept ended.session.tape) ended.session.end ended.session.turns ended.hall))
-    _ c.args.key.now _ usual_limits _ (opening (map named c.args.tables.now) usual_limits.slots) _ (replicate usual_limits.slots (unused usual_limits.feeds))
+    moved (λ k l n es. IfOk c.serve_one.result (λ ended. ServesOne (talk k l) (unused 0 0) (state_of held_in) (λ n. n) n es (g.T.Clock.told c.args.clock) (g.D.Dice.told c.args.dice) (g.L.Link.kept ended.session.tape) ended.session.end ended.session.turns ended.hall))
+    _ c.args.key.now _ usual_limits _ (opening (map named c.args.tables.now) usual_limits.slots) _ (replicate usual_limits.slots (unused usual_limits.feeds usual_limits.tail))
     (grind (arith, common_steps)) (grind (arith, common_steps)) (grind (arith, common_steps))
-    (c.in_ok-engines.ensures ∙ ap (λ l. replicate l.slots (unused l.feeds)) c.usual-limits.ensures) c.serve_one.ensures
+    (c.in_ok-engines.ensures ∙ ap (λ l. replicate l.slots (unused l.feeds l.tail)) c.usual-limits.ensures) c.serve_one.ensures

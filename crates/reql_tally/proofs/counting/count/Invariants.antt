@@ -7,8 +7,8 @@ use Rattle.reql_tally.proofs.counting.count.Given as goal
 
 abbrev pub invariant-loop-entry : goal.invariant-loop-entry
 invariant-loop-entry g l =
-    LeadsOn (unused l.limits.feeds) (l.older ++ l.newer) l.replica (drop l.place (l.older ++ l.newer))
-    × IsCounted (FoldsUp (unused l.limits.feeds) (l.older ++ l.newer)) (feeds_opened (unused l.limits.feeds) (l.older ++ l.newer)) (feeds_opened l.replica (drop l.place (l.older ++ l.newer))) l.count.feeds l.count.folds
+    LeadsOn (unused l.limits.feeds l.limits.tail) (l.older ++ l.newer) l.replica (drop l.place (l.older ++ l.newer))
+    × IsCounted (FoldsUp (unused l.limits.feeds l.limits.tail) (l.older ++ l.newer)) (feeds_opened (unused l.limits.feeds l.limits.tail) (l.older ++ l.newer)) (feeds_opened l.replica (drop l.place (l.older ++ l.newer))) l.count.feeds l.count.folds
     × (l.count.feeds ≤ l.place) × (l.count.folds ≤ l.count.feeds)
 
 abbrev pub decreases-loop-entry : goal.decreases-loop-entry
