@@ -2,3 +2,5 @@ pub mod Worked
 pub mod Minding
 pub mod Following
 pub mod Follows
+pub mod Limits
+pub mod Opened

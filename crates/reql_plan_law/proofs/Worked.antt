@@ -1,7 +1,7 @@
 -- The worked rows, by computing.
 use Rattle.std.specs.Prelude.{refl}
 use Rattle.reql_naming.specs.Named.{op_rule}
-use Rattle.reql_plan_law.specs.Worked.{Reads, Writes, Commands, Feeds}
+use Rattle.reql_plan_law.specs.Worked.{Reads, Writes, Commands, Feeds, Planned}
 
 pub reads : Reads
 unfolding op_rule
@@ -18,3 +18,6 @@ commands = (refl, refl, refl, refl, refl, refl, refl, refl, refl, refl, refl, re
 pub feeds : Feeds
 unfolding op_rule
 feeds = (refl, refl, refl, refl, refl, refl, refl, refl, refl, refl, refl, refl, refl, refl, refl, refl, refl, refl)
+
+pub planned : Planned
+planned = (refl, refl, refl, refl, refl, refl, refl, refl)

@@ -29,6 +29,7 @@ use Rattle.reql_law.specs.declared.reply.Saved.TheVariants as saved
 use Rattle.reql_plan_law.specs.declared.parts.Plan.{Plan}
 use Rattle.reql_plan_law.specs.declared.parts.Setting.{Setting}
 use Rattle.reql_plan_law.specs.Course.{plan_next}
+use Rattle.reql_plan_law.specs.Follows.{is_planned}
 use Rattle.reql_plan_law.specs.Move.{look_names, tell, look, run, change_names, roll, Replied, Heard, names, told, looked, ran, changed, rolled, fault, memory, unsent, atom, sequence, feed, stop}
 use Rattle.reql_plan_law.specs.Request.{Next, answered, moves}
 use Rattle.reql_plan_law.specs.Summed.{nothing_done, summary_shown}
@@ -293,3 +294,19 @@ Feeds =
     × (goes (changes (first_of low_keys (num 2)) ((codes "include_types", num 1) ∷ [])) (sees 0 0 [] ∷ []) ≡ fails (query_logic (codes "Bad value for optional argument `include_types`.")))
     × (goes (changes (first_ones (num 2)) []) (sees 0 0 [] ∷ []) ≡
     runs 0 (at 0 0 0 ∷ []) (cmds.Subscribe (record { key = codes "id"; shape = call op.Limit (with op.OrderBy (slot 0 ∷ []) ((codes "index", name "n") ∷ []) ∷ num 2 ∷ []); index = Some (codes "n"); kind = kinds.Limit 2; size = 100000; offsets = false; types = false; squash = false })))
+
+-- ---- what planning leaves, and what it never does: a table that was not looked up, a variable or a table from outside, a count or an option
+-- that an operator doesn't take
+abbrev over_one : Form
+over_one = function (1 ∷ []) (call op.Gt (call op.GetField (variable 1 ∷ name "n" ∷ []) ∷ num 1 ∷ []))
+
+abbrev pub Planned : Type 0
+Planned =
+    (is_planned (call op.Limit (with op.OrderBy (call op.Between (slot 0 ∷ num 1 ∷ num 2 ∷ []) ∷ []) ((codes "index", name "n") ∷ []) ∷ num 2 ∷ [])) ≡ true)
+    × (is_planned (with op.Filter (slot 0 ∷ over_one ∷ []) ((codes "default", call op.Error []) ∷ [])) ≡ true)
+    × (is_planned (call op.Get (slot 0 ∷ num 2 ∷ [])) ≡ true)
+    × (is_planned docs ≡ false)
+    × (is_planned (call op.Map (slot 0 ∷ function (1 ∷ []) (variable 2) ∷ [])) ≡ false)
+    × (is_planned (call op.Map (slot 0 ∷ function (1 ∷ []) (slot 1) ∷ [])) ≡ false)
+    × (is_planned (call op.Between (slot 0 ∷ num 1 ∷ [])) ≡ false)
+    × (is_planned (with op.Filter (slot 0 ∷ over_one ∷ []) ((codes "index", name "n") ∷ [])) ≡ false)

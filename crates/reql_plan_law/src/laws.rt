@@ -1,5 +1,5 @@
 // Laws of plans.
-ghost use Rattle.reql_plan_law.specs.Follows.{PointsAreRead, RangesAreRead};
+ghost use Rattle.reql_plan_law.specs.Follows.{FeedsAreRead, LimitsAreRead, PointsAreRead, RangesAreRead};
 ghost use Rattle.reql_plan_law.specs.Minds.{PlansMind, PlansMindEachStep};
 
 /// A plan takes nothing of a feed, closes no feed but those that it opened and that are open still, and
@@ -14,9 +14,12 @@ pub fn plans_mind_each_step()
     ensures { PlansMindEachStep }
 {}
 
-/// A feed of a range, and one of a document by GET, that CHANGES asks for is read by the machine of the table that it is
-/// asked of: it follows what its term says, and is not one that stays empty since nothing could be read from it.
+/// A feed that CHANGES asks for, of a range, of a document by GET, or of the first of an order by an index, follows something
+/// once it is opened, whatever indexes its table has: it is not one that shows nothing for ever since its term could not be
+/// read, or is no term of its kind. So does each arm of a UNION of ranges, and so every feed that a request opens.
 pub fn feeds_are_read()
     ensures ranges { RangesAreRead }
     ensures points { PointsAreRead }
+    ensures limits { LimitsAreRead }
+    ensures feeds { FeedsAreRead }
 {}

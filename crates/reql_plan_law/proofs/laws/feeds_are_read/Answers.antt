@@ -1,4 +1,6 @@
 use Rattle.reql_plan_law.proofs.Follows.{points_are_read, ranges_are_read}
+use Rattle.reql_plan_law.proofs.Limits.{limits_are_read}
+use Rattle.reql_plan_law.proofs.Opened.{feeds_are_read}
 use Rattle.reql_plan_law.proofs.laws.feeds_are_read.Goals as goal
 
 pub returns-clause-ranges : goal.returns-clause-ranges
@@ -6,3 +8,9 @@ returns-clause-ranges c = ranges_are_read
 
 pub returns-clause-points : goal.returns-clause-points
 returns-clause-points c = points_are_read
+
+pub returns-clause-limits : goal.returns-clause-limits
+returns-clause-limits c = limits_are_read
+
+pub returns-clause-feeds : goal.returns-clause-feeds
+returns-clause-feeds c = feeds_are_read
