@@ -66,8 +66,8 @@ ServedWhole script members = (m : Member MemRecord) × (members ≡ m ∷ []) ×
 abbrev pub lines : Tally → List ℕ
 lines t = codes "documents " ++ decimal t.documents ++ codes "\nchanges " ++ decimal t.changes ++ codes "\nfeeds " ++ decimal t.feeds ++ codes "\nfolds " ++ decimal t.folds ++ codes "\n"
 
--- What is printed of a load: each worker served the session of its number, which was whole; and what the table's engine keeps of its history is
--- counted, from the empty table on to where it stands.
+-- What is printed of a load: each worker served the session of its number, which was whole; and the entries that the table's engine keeps are
+-- counted, which lead from the empty table to the table where it stands.
 pub record Reports {E NE : Type 0} (state : E → State) (kept : E → Kept Moment Entry) (seed size : ℕ) (members : List (List (Member MemRecord))) (hall : Closed E Order State NE CatCmd Catalog) (text : List ℕ) : Type 0 where
   pub whole : (session : ℕ) (ms : List (Member MemRecord)) → session < 5 → ServedWhole (script_of seed size session) (slice_index_or members session ms)
   pub tally : Tally
@@ -89,7 +89,7 @@ pub record Loads {E NE : Type 0} (state : E → State) (known : NE → Catalog) 
   pub served : IsServed state known workers hall
   pub prints : Prints state kept seed size (map (λ (w : AtEnd MemRecord). w.ended) workers) hall old new status
 
--- No session is served, and nothing is printed: the words ask for no load, or memory was wanted.
+-- No session is told of, and nothing is printed: the words ask for no load, or memory was wanted.
 abbrev pub Unloaded : Asks → Written → Written → ℕ → Type 0
 Unloaded (Load seed size) old new status = (status ≡ 8) × (new ≡ old)
 Unloaded asked old new status = (status ≡ 2) × (new ≡ old)

@@ -3,6 +3,7 @@ ghost use Rattle.std.specs.Prelude.{◌<◌, length, map, string_bytes, IfOk, If
 ghost use Rattle.reql_words.specs.Words.{asks};
 ghost use Rattle.reql_core.specs.Core.{state_of};
 ghost use Rattle.reql_open_feed.specs.Open.{held_in};
+ghost use Rattle.reql_told.specs.Laws.{AllInOrder, AllFramesHandled, AllWornLate, AllValidClose, AllFeedsHold};
 ghost use Rattle.reql_serve.specs.Many.{at_end};
 ghost use Rattle.reql_loading.specs.Loading.{IsServed, Loads, Prints, Reports, Unloaded};
 
@@ -16,6 +17,7 @@ use reql_outside::{Put, Sink};
 use reql_run::{Core, serve_posts};
 use reql_serve::Many;
 use reql_tally::tally_history;
+use reql_told::sessions_hold;
 use reql_words::{Command, command_of};
 use std::alloc::Global;
 use std::sync::Wait;
@@ -95,16 +97,23 @@ fn print<K: Sink>(
 /// opened with to what their query gives.
 ///
 /// With other words the status is 2, and nothing is served or printed. What is proved of every session of these plans stands
-/// beside `run` of `reql_run`.
+/// beside what these did: its input is handled in order, every whole frame of it, and every feed that it opened folds to the
+/// value of its query. What else is, of planning and refusals, stands beside `run` of `reql_run`.
 pub fn load<R, K: Sink>(rt: &R, alloc: Global, words: &[String], out: &mut K) -> Loaded
 where
     R: Threads + Wait + Sync,
-    ensures { MatchOption result.ended
+    ensures loads { MatchOption result.ended
         (Unloaded (asks (map string_bytes words.now)) (K.told out.old) (K.told out.new) result.status)
         (λ many. Loads (state_of held_in) (λ n. n) (λ c. c.tail)
         (asks (map string_bytes words.now)) (K.told out.old) (K.told out.new) result.status
         (map (λ w. at_end w.door.told w.ended.items w.left w.state) many.workers.items) many.hall) }
+    ensures in_order { AllInOrder }
+    ensures frames_handled { AllFramesHandled }
+    ensures worn_late { AllWornLate }
+    ensures valid_close { AllValidClose }
+    ensures feeds_hold { AllFeedsHold }
 {
+    sessions_hold();
     let Command::Load { seed, size } = command_of(words) else {
         return Loaded {
             status: 2,

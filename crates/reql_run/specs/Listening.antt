@@ -70,7 +70,7 @@ pub record Listens {E NE R : Type 0} (state : E → State) (known : NE → Catal
   pub came : ComesTo state known tape port many sessions key tables old new workers hall
   pub ends : status ≡ status_of_workers (map (λ (w : AtEnd R). w.state) workers)
 
--- No session is served: the words ask for no port, and the net isn't asked; or it is asked once, and fails, or memory is wanted.
+-- No session is told of: the words ask for no port, and the net isn't asked; or it is asked once, and fails, or memory is wanted.
 abbrev pub Unheard : Asks → NetTold → NetTold → ℕ → Type 0
 Unheard (Listen port many sessions key tables) old new status =
     ((status ≡ 3) × (new ≡ nets.asks old port many 1)) ⊎ ((status ≡ 8) × (new ≡ nets.asks old port many 0))

@@ -36,7 +36,7 @@ pub record Serves {E NE : Type 0} (state : E → State) (known : NE → Catalog)
   pub whole : ClosesWhole (talk key usual_limits) served.served.explained.explained tape
   pub fed : AreFed (talk key usual_limits) served.served.explained.explained
 
--- No session is served: the words ask for none, or memory was wanted.
+-- No session is told of: the words ask for none, or memory was wanted.
 abbrev pub Unserved : Asks → ℕ → Type 0
 Unserved (Stdio key tables) status = status ≡ 8
 Unserved asked status = status ≡ 2

@@ -37,7 +37,8 @@ pub struct Heard<G: Door> {
     /// was wanted, to begin with or by a worker for one more session.
     pub status: u8,
     /// The workers as they ended, with their sessions, and the hall with its whole histories. None
-    /// with the status 2, where the port can't be opened, and where memory was wanted to begin with.
+    /// with the status 2, where the port can't be opened, and where memory was wanted to begin with:
+    /// then nothing is left that tells of the doors.
     pub ended: Option<Many<Core, G>>,
 }
 

@@ -4,6 +4,7 @@ ghost use Rattle.reql_run.specs.Endings.{status_of};
 
 use reql_core::TableCore;
 use reql_open_feed::OpenFeed;
+use reql_outside::Link;
 use reql_serve::Ended;
 use reql_story::End;
 
@@ -12,15 +13,15 @@ pub type Core = TableCore<OpenFeed>;
 
 /// How the server ended.
 #[derive(Drop)]
-pub struct Outcome<R> {
+pub struct Outcome<L: Link> {
     /// 0: the input ended between two requests. 2: the words ask for no session. 4, 5: a receive, a
     /// send failed. 6: the input ended within a greeting or a request. 7: the greeting was refused.
     /// 8: memory was wanted before the greeting was answered, or for bytes that came. 9: a request
     /// was too long, or all turns were used up.
     pub status: u8,
-    /// The session, and the hall with its whole histories. None with the status 2, and where memory
-    /// was wanted before anything was heard or said.
-    pub ended: Option<Ended<Core, R>>,
+    /// The session, and the hall with its whole histories. Err with the status 2, and where memory was
+    /// wanted before a session began: the link as it was handed in, on which nothing was heard or said.
+    pub ended: Result<Ended<Core, L::Record>, L>,
 }
 
 // The status of a server whose one session ended so.

@@ -1,5 +1,5 @@
 // The whole server, over the devices that it is handed.
-ghost use Rattle.std.specs.Prelude.{◌≡◌, map, string_bytes, IfOk, MatchOption};
+ghost use Rattle.std.specs.Prelude.{◌≡◌, map, string_bytes, IfErr, IfOk, MatchResult};
 ghost use Rattle.reql_outside.specs.Tape.{IsFresh};
 ghost use Rattle.reql_words.specs.Words.{asks, named};
 ghost use Rattle.reql_core.specs.Core.{state_of};
@@ -10,20 +10,19 @@ ghost use Rattle.reql_told.specs.Laws.{AllInOrder, AllFramesHandled, AllWornLate
 ghost use Rattle.reql_told.specs.Refusing.{FirstRefusal, ShapeRefusal};
 ghost use Rattle.reql_run.specs.Running.{IsServed, Serves, Unserved};
 
-use crate::opening::{engines, names_of};
+use crate::opening::{Start, begin};
 use crate::outcome::{Core, Outcome, status_of};
-use reql_catalog::Catalogue;
-use reql_law::{Limits, feeds_show_their_terms, table_laws};
-use reql_memory::Memory;
+use reql_law::{feeds_show_their_terms, table_laws};
+use reql_memory::Refused;
 use reql_outside::{Clock, Dice, Link};
 use reql_planner::QueryPlanner;
 use reql_serve::{Ended, serve_one};
-use reql_told::{QueryPlans, first_refusal, plans_are_told, server_is_told, sessions_hold};
+use reql_told::{first_refusal, plans_are_told, server_is_told, sessions_hold};
 use reql_words::{Command, command_of};
 use std::alloc::Global;
 use std::sync::Wait;
 
-// Serves one session to who has the key, with these tables from the start.
+// Serves one session to who has the key, with these tables from the start. An `Err` hands the link back as it came.
 fn serve<R: Wait, L: Link + Drop, D: Dice + Drop, T: Clock + Drop>(
     rt: &R,
     alloc: Global,
@@ -32,17 +31,21 @@ fn serve<R: Wait, L: Link + Drop, D: Dice + Drop, T: Clock + Drop>(
     stdio: L,
     dice: D,
     clock: T,
-) -> Result<Ended<Core, L::Record>, Memory>
+) -> Result<Ended<Core, L::Record>, Refused<L>>
     requires fresh { IsFresh (L.tape stdio) }
-    ensures { IfOk result (λ ended. IsServed (state_of held_in) (λ n. n) key.now (map named tables.now) (T.told clock) (D.told dice)
+    ensures served { IfOk result (λ ended. IsServed (state_of held_in) (λ n. n) key.now (map named tables.now) (T.told clock) (D.told dice)
         (L.kept ended.session.tape) ended.session.end ended.session.turns ended.hall) }
+    ensures back { IfErr result (λ refused. refused.back ≡ stdio) }
 {
-    let limits = Limits::usual();
-    let tables = names_of(alloc, tables)?;
-    let names = Catalogue::new(alloc, &tables, limits.slots)?;
-    let engines = engines(alloc, &limits)?;
-    let key = key.as_bytes().to_vec(alloc)?;
-    let planner = QueryPlanner::<Core>::new(QueryPlans { key, limits });
+    let Ok(start) = begin(alloc, key, tables) else {
+        return Err(Refused { back: stdio });
+    };
+    let Start {
+        names,
+        engines,
+        plans,
+    } = start;
+    let planner = QueryPlanner::<Core>::new(plans);
     serve_one(rt, alloc, names, engines, &planner, stdio, clock, dice)
 }
 
@@ -50,12 +53,12 @@ fn serve<R: Wait, L: Link + Drop, D: Dice + Drop, T: Clock + Drop>(
 /// order. K has at most 1024 bytes, and a greeting must bring it; without it the key is empty. The database `test` is
 /// there, and each table that is named, with its database and the key field `id`.
 ///
-/// The link is fresh. With other words the status is 2, and nothing is heard or said. What is proved of every session of
-/// these plans, whatever its input, stands beside what this one did: its input is handled in order, every whole frame of
-/// it; a valid input, which is nothing or a greeting that is accepted and whole frames within the limit, is handled to its
-/// last frame, and the status is 0, unless a receive or a send failed, it took more turns than there are, or memory was
-/// wanted; every request is answered by its plan, or by the first of its refusals; and every feed that it opened folds to the
-/// value of its query.
+/// The link is fresh. With other words the status is 2, and where memory is wanted before a session begins it is 8; then the
+/// link comes back as it was handed in, so that nothing was heard or said. What is proved of every session of these plans,
+/// whatever its input, stands beside what this one did: its input is handled in order, every whole frame of it; a valid input,
+/// which is nothing or a greeting that is accepted and whole frames within the limit, is handled to its last frame, and the
+/// status is 0, unless a receive or a send failed, it took more turns than there are, or memory was wanted; every request is
+/// answered by its plan, or by the first of its refusals; and every feed that it opened folds to the value of its query.
 pub fn run<R: Wait, L: Link + Drop, D: Dice + Drop, T: Clock + Drop>(
     rt: &R,
     alloc: Global,
@@ -63,12 +66,13 @@ pub fn run<R: Wait, L: Link + Drop, D: Dice + Drop, T: Clock + Drop>(
     stdio: L,
     dice: D,
     clock: T,
-) -> Outcome<L::Record>
+) -> Outcome<L>
     requires fresh { IsFresh (L.tape stdio) }
-    ensures served { MatchOption result.ended
-        (Unserved (asks (map string_bytes words.now)) result.status)
+    ensures served { MatchResult result.ended
         (λ ended. Serves (state_of held_in) (λ n. n) (asks (map string_bytes words.now)) result.status (T.told clock) (D.told dice)
-        (L.kept ended.session.tape) ended.session.end ended.session.turns ended.hall) }
+        (L.kept ended.session.tape) ended.session.end ended.session.turns ended.hall)
+        (λ link. Unserved (asks (map string_bytes words.now)) result.status) }
+    ensures back { IfErr result.ended (λ link. link ≡ stdio) }
     ensures in_order { AllInOrder }
     ensures frames_handled { AllFramesHandled }
     ensures worn_late { AllWornLate }
@@ -94,17 +98,17 @@ pub fn run<R: Wait, L: Link + Drop, D: Dice + Drop, T: Clock + Drop>(
     let Command::Stdio { key, tables } = command_of(words) else {
         return Outcome {
             status: 2,
-            ended: None,
+            ended: Err(stdio),
         };
     };
     match serve(rt, alloc, key, tables.as_slice(), stdio, dice, clock) {
         Ok(ended) => Outcome {
             status: status_of(ended.session.end),
-            ended: Some(ended),
+            ended: Ok(ended),
         },
-        Err(Memory) => Outcome {
+        Err(refused) => Outcome {
             status: 8,
-            ended: None,
+            ended: Err(refused.back),
         },
     }
 }

@@ -1,5 +1,5 @@
 // One session, at the one desk of a hall.
-ghost use Rattle.std.specs.Prelude.{◌≡◌, All, IfOk, map};
+ghost use Rattle.std.specs.Prelude.{◌≡◌, All, IfErr, IfOk, map};
 ghost use Rattle.reql_outside.specs.Tape.{IsFresh};
 ghost use Rattle.reql_catalog.specs.Machine.{catalogue_machine};
 ghost use Rattle.reql_serve.specs.Serving.{ServesOne};
@@ -7,7 +7,7 @@ ghost use Rattle.reql_serve.specs.Serving.{ServesOne};
 use reql_catalog::Catalogue;
 use reql_hall::{FinalHall, Hall};
 use reql_law::TableEngine;
-use reql_memory::Memory;
+use reql_memory::Refused;
 use reql_outside::{Clock, Dice, Link};
 use reql_session::{Bench, Session};
 use reql_story::Planning;
@@ -24,7 +24,7 @@ pub struct Ended<C: TableEngine, R> {
 }
 
 /// Serves one session over a link, at the one desk of a hall of these names and engines, which nobody has used. The link is
-/// fresh. Memory where there is none to begin with; then nothing was heard or said.
+/// fresh. An `Err` is want of memory to begin with, and hands the link back as it came: nothing was heard or said.
 pub fn serve_one<
     R: Wait,
     C: TableEngine + Drop,
@@ -41,27 +41,30 @@ pub fn serve_one<
     link: L,
     clock: T,
     dice: D,
-) -> Result<Ended<C, L::Record>, Memory>
+) -> Result<Ended<C, L::Record>, Refused<L>>
 where
     <P as Planning>::Plan: Drop,
     <P as Planner>::Course: Drop,
     requires names_unused { catalogue_machine.place names ≡ 0 }
     requires slots_unused { All (λ e. C.machine.place (C.state e) ≡ 0) engines.items }
     requires fresh { IsFresh (L.tape link) }
-    ensures { IfOk result (λ ended. ServesOne (P.talk planner.now) C.some_state C.state (λ n. n) names
+    ensures served { IfOk result (λ ended. ServesOne (P.talk planner.now) C.some_state C.state (λ n. n) names
         (map C.state engines.items) (T.told clock) (D.told dice) (L.kept ended.session.tape) ended.session.end
         ended.session.turns ended.hall) }
+    ensures back { IfErr result (λ refused. refused.back ≡ link) }
 {
     let Ok(slots) = u32::try_from(engines.len()) else {
-        return Err(Memory);
+        return Err(Refused { back: link });
     };
-    let (hall, mut desks, room) = Hall::new(alloc, names, engines, 1)?;
+    let Ok((hall, mut desks, room)) = Hall::new(alloc, names, engines, 1) else {
+        return Err(Refused { back: link });
+    };
     let Some(desk) = desks.pop() else {
-        return Err(Memory);
+        return Err(Refused { back: link });
     };
     let bench = Bench { desk, clock, dice };
     let Ok(mut session) = Session::new(rt, alloc, &hall, bench, slots, planner) else {
-        return Err(Memory);
+        return Err(Refused { back: link });
     };
     let served = serve_session(alloc, link, &mut session);
     desks.push_reserved(session.into_bench().desk);

@@ -11,7 +11,9 @@ use Rattle.reql_law.specs.Table.{Held, feed_of}
 use Rattle.reql_law.specs.declared.command.Entry.{Entry}
 use Rattle.reql_load.specs.Folded.{folded}
 use Rattle.reql_table.specs.Seen.{Standing, documents_of, indexes_of}
-use Rattle.reql_tail.specs.Kept.{Kept}
+use Rattle.reql_tail.specs.Kept.{Kept, standing}
+use Rattle.reql_core.specs.Core.{stand_of}
+use Rattle.reql_core.specs.Moments.{led_by, bare as without_feeds}
 use Rattle.reql_core.specs.declared.moment.Moment.{Moment}
 use Rattle.reql_tally.specs.Past.{OpenedFeed, feeds_opened, batches_taken, sent_to, skips, latest}
 use Rattle.reql_tally.specs.declared.tally.Tally.{Tally}
@@ -64,11 +66,13 @@ abbrev pub Ends : State → Tally → Bool → Type 0
 Ends s t true = stands s t ≡ true
 Ends s t false = (s.table.shut ≡ true) ⊎ (stands s t ≡ false)
 
--- What is kept begins with an empty table, and its entries count to this, where the table stands.
+-- What is kept begins with an empty table, and its entries count to this and lead to the table itself, but for its feeds: to its documents and indexes, at its
+-- place and its stamp.
 pub record Found (most keeps : ℕ) (k : Kept Moment Entry) (s : State) (t : Tally) : Type 0 where
   pub begins : begins k.base ≡ true
   pub counts : Counts (unused most keeps) k.entries t
   pub stands : stands s t ≡ true
+  pub leads : standing stand_of led_by k ≡ without_feeds s.table
 
 -- What is kept doesn't begin so; or the table was dropped, or isn't where the entries count to.
 abbrev pub HasNone : ℕ → ℕ → Kept Moment Entry → State → Type 0

@@ -59,7 +59,8 @@ server, 1024 open feeds of a table, 1024 open cursors and feeds of a session.
 status of stdio: 0 the input ended between two requests, 2 the words are wrong, 4 reading failed,
 5 writing failed, 6 the input ended within a greeting or a request, 7 the greeting was refused,
 8 out of memory, 9 a request was too long.
-status of load: 0 it printed its four lines, 2 the words are wrong, 5 writing failed, 8 out of memory.
+status of load: 0 it printed its four lines, 2 the words are wrong, 5 writing failed, 8 out of memory,
+or a session of its own was not served whole.
 status of listen: 0 it served as many sessions as it was told, however they ended, 2 the words are
 wrong, 3 the port can't be opened, or no more clients can be taken from it, 8 out of memory.
 ";
@@ -150,7 +151,7 @@ fn told(rt: &HostRuntime, port: u16, status: u8, is_opened: bool) -> ExitCode {
 fn unprinted(rt: &HostRuntime, status: u8) -> ExitCode {
     let _ = match status {
         5 => eprintln!(rt; "reqld: the standard output can't be written"),
-        8 => eprintln!(rt; "reqld: out of memory"),
+        8 => eprintln!(rt; "reqld: out of memory, or a session of the load was not served whole"),
         _ => Ok(()),
     };
     ExitCode::from(status)

@@ -38,10 +38,10 @@ const UNKEYED: [&str; 3] = [
 ];
 
 // Whether the session was sent this.
-fn was_sent(outcome: &Outcome<MemRecord>, sent: &[u8]) -> bool {
+fn was_sent(outcome: &Outcome<MemLink>, sent: &[u8]) -> bool {
     match &outcome.ended {
-        Some(ended) => ended.session.tape.sent.as_slice() == sent,
-        None => false,
+        Ok(ended) => ended.session.tape.sent.as_slice() == sent,
+        Err(_) => false,
     }
 }
 

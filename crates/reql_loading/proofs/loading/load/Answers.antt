@@ -12,8 +12,8 @@ use Rattle.reql_loading.proofs.loading.load.Goals as goal
 pub print-requires : goal.print-requires
 print-requires g c = has_slot (state_of held_in) (λ n. n) _ c.in-Ok.many.hall c.in-Ok.ensures
 
-pub returns-in-Ok : goal.returns-in-Ok
-returns-in-Ok g c = record {
+pub returns-in-Ok-clause-loads : goal.returns-in-Ok-clause-loads
+returns-in-Ok-clause-loads g c = record {
   seed = c.in-Load.seed;
   size = c.in-Load.size;
   asks = c.in-Load.ensures;

@@ -13,11 +13,14 @@ use Rattle.reql_run.proofs.Starting.{all_unused}
 use Rattle.reql_run.proofs.serving.serve.Goals as goal
 
 pub serve_one-requires-clause-slots_unused : goal.serve_one-requires-clause-slots_unused
-serve_one-requires-clause-slots_unused g c = all_unused (state_of held_in) _ _ c.in_ok-engines.engines.items _ c.in_ok-engines.ensures
+serve_one-requires-clause-slots_unused g c = all_unused (state_of held_in) usual_limits.feeds usual_limits.tail c.in-Ok.start.engines.items usual_limits.slots c.in-Ok.ensures.engines
 
-pub returns : goal.returns
-returns g c =
+pub returns-clause-served : goal.returns-clause-served
+returns-clause-served g c =
     moved (λ k l n es. IfOk c.serve_one.result (λ ended. ServesOne (talk k l) (unused 0 0) (state_of held_in) (λ n. n) n es (g.T.Clock.told c.args.clock) (g.D.Dice.told c.args.dice) (g.L.Link.kept ended.session.tape) ended.session.end ended.session.turns ended.hall))
     _ c.args.key.now _ usual_limits _ (opening (map named c.args.tables.now) usual_limits.slots) _ (replicate usual_limits.slots (unused usual_limits.feeds usual_limits.tail))
-    (grind (arith, common_steps)) (grind (arith, common_steps)) (grind (arith, common_steps))
-    (c.in_ok-engines.ensures ∙ ap (λ l. replicate l.slots (unused l.feeds l.tail)) c.usual-limits.ensures) c.serve_one.ensures
+    (ap (λ p. p.key.items) c.new-planner.ensures ∙ c.in-Ok.ensures.key) (ap (λ p. p.limits) c.new-planner.ensures ∙ c.in-Ok.ensures.limits) c.in-Ok.ensures.names c.in-Ok.ensures.engines
+    c.serve_one.ensures.served
+
+pub returns-clause-back : goal.returns-clause-back
+returns-clause-back g c = c.serve_one.ensures.back
