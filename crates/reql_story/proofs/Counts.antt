@@ -78,13 +78,13 @@ module _ {PL : Type 0} (k : Talk PL) where
   step_few m x Visit s = let a = at _ _ s.3 in record { few = omega (arith, ap owed s.2, ap owed a.0, owed_next (Some s.1) (visit k m.books s.0).task, ap length a.1, ap flag a.2) }
   step_few m x (Greeted true) s =
       elim s.2 [
-        | inl g ↦ (let a = at _ _ g.2 in record { few = omega (arith, ap owed s.0, ap owed a.0, ap length a.1, drops g.0 m.held, ap flag a.2, ap flag s.1) })
-        | inr g ↦ (let a = at _ _ g.2 in record { few = omega (arith, ap owed s.0, ap owed a.0, ap length a.1, ap flag a.2) })
+        | inl g ↦ (let a = at _ _ g.4 in record { few = omega (arith, ap owed s.0, ap owed a.0, ap length a.1, drops g.0 m.held, ap flag a.2, ap flag s.1) })
+        | inr g ↦ (let a = at _ _ g.4 in record { few = omega (arith, ap owed s.0, ap owed a.0, ap length a.1, ap flag a.2) })
       ]
   step_few m x (Greeted false) s =
       elim s.2 [
-        | inl g ↦ (let a = at _ _ g.2 in record { few = omega (arith, ap owed s.0, ap owed a.0, ap length a.1, ap flag a.2) })
-        | inr g ↦ (let a = at _ _ g.2 in record { few = omega (arith, ap owed s.0, ap owed a.0, ap length a.1, ap flag a.2) })
+        | inl g ↦ (let a = at _ _ g.4 in record { few = omega (arith, ap owed s.0, ap owed a.0, ap length a.1, ap flag a.2) })
+        | inr g ↦ (let a = at _ _ g.4 in record { few = omega (arith, ap owed s.0, ap owed a.0, ap length a.1, ap flag a.2) })
       ]
   step_few m x (Begin frame is_read) s = let a = at _ _ s.5 in record { few = omega (arith, ap owed s.1, ap owed a.0, owed_next None (takes_up k m.books frame.token frame.body is_read).task, ap length a.1, ap length s.4, length-append (spelling frame) s.0, frame_bytes frame, ap flag a.2) }
   step_few m x (Heard bytes) s = let a = at _ _ s.2 in record { few = omega (arith, ap owed s.0.0, ap owed a.0, ap length a.1, length-append m.held bytes, s.1.some, ap flag a.2) }

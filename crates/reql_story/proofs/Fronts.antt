@@ -95,10 +95,10 @@ module _ {PL : Type 0} (k : Talk PL) (on : PL → Bool → ℕ → List Found �
     step_ok c m n Turn p o s h = keeps c n _ p s.1 (at_doing c m Rest p s.0 o)
     step_ok c m n Visit p o s h = keeps c n _ p s.3 (ok_goes c m (Some s.1) (visit k m.books s.0) p (ok_visit k on σ φ c m.books s.0 p (at_doing c m (Visits (s.0 ∷ s.1)) p s.2 o)))
     step_ok c m n (Greeted true) p o s h = elim s.2 [
-      | inl g ↦ keeps c n _ p g.2 (at_doing c m (Visits []) p s.0 o)
-      | inr g ↦ keeps c n _ p g.2 tt
+      | inl g ↦ keeps c n _ p g.4 (at_doing c m (Visits []) p s.0 o)
+      | inr g ↦ keeps c n _ p g.4 tt
     ]
-    step_ok c m n (Greeted false) p o s h = elim s.2 [ inl g ↦ keeps c n _ p g.2 tt | inr g ↦ keeps c n _ p g.2 tt ]
+    step_ok c m n (Greeted false) p o s h = elim s.2 [ inl g ↦ keeps c n _ p g.4 tt | inr g ↦ keeps c n _ p g.4 tt ]
     step_ok c m n (Begin frame is_read) p o s h = keeps c n _ p s.5 (ok_goes c (record m { held = s.0 }) None (takes_up k m.books frame.token frame.body is_read) p (ok_takes_up k on σ φ c well m.books frame.token frame.body is_read p (at_doing c m (Visits []) p s.1 o)))
     step_ok c m n (Heard bytes) p o s h = keeps c n _ p s.2 (at_doing c m (Visits []) p s.0.0 o)
     step_ok c m n (Lost bytes) p o s h = keeps c n _ p s.2 tt

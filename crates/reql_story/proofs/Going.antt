@@ -15,7 +15,7 @@ use Rattle.reql_table_machine.proofs.Items.{all_append}
 use Rattle.reql_story.specs.Requests.{Arm}
 use Rattle.reql_story.specs.Tasks.{Talk}
 use Rattle.reql_story.specs.Session.{Event, Finish, On, Leaving, Mach, fresh, Run, heard, heard_of, idles, turns, over, clocked_of, rolled_of, acts_of, acts_on, names_of, acts_on_names}
-use Rattle.reql_story.specs.Explained.{IsHonest, AreHonest, Says, Wears}
+use Rattle.reql_story.specs.Explained.{IsHonest, AreHonest, Wears}
 use Rattle.reql_story.specs.Worlds.{Place, sound_at, with_out, faulted, faults_in_at, faults_out_at, IsTold, DeskPlays, Does, Goes, Why, Ended, IsExplained}
 use Rattle.reql_story.specs.declared.end.End.{End}
 use Rattle.reql_story.specs.declared.end.End.TheVariants as ends
@@ -44,16 +44,6 @@ plus_nothing : (n : ℕ) → n + 0 ≡ n
 plus_nothing n = omega arith
 
 -- ---- ends and faults
-says_on : (end : End) (a b c : List ℕ) → Says end b c → Says end (a ++ b) (a ++ c)
-says_on ends.WriteFault a b c h = (h.0, ap (λ z. a ++ z) h.1 ∙ sym (append_assoc a b h.0))
-says_on ends.Closed a b c h = ap (λ z. a ++ z) h
-says_on (ends.Cut n) a b c h = ap (λ z. a ++ z) h
-says_on (ends.Refused f) a b c h = ap (λ z. a ++ z) h
-says_on (ends.TooLong n) a b c h = ap (λ z. a ++ z) h
-says_on ends.ReadFault a b c h = ap (λ z. a ++ z) h
-says_on ends.Worn a b c h = ap (λ z. a ++ z) h
-says_on ends.Memory a b c h = ap (λ z. a ++ z) h
-
 -- a fault that comes after a move is a fault before it
 faulted_first : (end : End) (a b : Tape) (h s : List ℕ) (i : ℕ) (o : Bool) → Moves a b h s i o → Moves (faulted end a) (faulted end b) h s i o
 faulted_first ends.ReadFault a b h s i o m = recv_failed_first a b h s i o m
@@ -167,9 +157,7 @@ module _ {PL : Type 0} (k : Talk PL) where
   ends_from t u v x y z c d a b end arms m n p q = record {
     events = p.events ++ q.events;
     said = p.said ++ q.said;
-    all = p.said ++ q.all;
-    output = says_on end p.said q.said q.all q.output;
-    run = runs_on x.now y.now z.now p.events q.events p.said q.all p.run q.run;
+    run = runs_on x.now y.now z.now p.events q.events p.said q.said p.run q.run;
     left = q.left;
     moves = subst (λ h. Moves (faulted end t) v h (p.said ++ q.said) (idles (p.events ++ q.events)) v.over) (sym (flat_map-append heard_of p.events q.events))
         (subst (λ i. Moves (faulted end t) v (heard p.events ++ heard q.events) (p.said ++ q.said) i v.over) (sym (idles_append p.events q.events))
@@ -187,9 +175,7 @@ module _ {PL : Type 0} (k : Talk PL) where
   ends_closing t u x y z c a end arms left n p q l h = record {
     events = p.events ++ q.events;
     said = p.said;
-    all = p.all;
-    output = p.output;
-    run = λ out. subst (λ o. Run k (with_out out x.now) (p.events ++ q.events) (with_out (out ++ o) z.now)) (append-nil p.all) (runs_on x.now y.now z.now p.events q.events p.all [] p.run q.run out);
+    run = λ out. subst (λ o. Run k (with_out out x.now) (p.events ++ q.events) (with_out (out ++ o) z.now)) (append-nil p.said) (runs_on x.now y.now z.now p.events q.events p.said [] p.run q.run out);
     left = l;
     moves = subst (λ b. Moves (faulted end t) u b p.said (idles (p.events ++ q.events)) u.over) (sym (flat_map-append heard_of p.events q.events ∙ (λ i. heard p.events ++ q.bytes i) ∙ append-nil (heard p.events)))
         (subst (λ i. Moves (faulted end t) u (heard p.events) p.said i u.over) (sym (idles_append p.events q.events ∙ (λ i. idles p.events + q.idle i) ∙ plus_nothing (idles p.events))) p.moves);
@@ -218,11 +204,11 @@ module _ {PL : Type 0} (k : Talk PL) where
         names = plays_grew catalogue_machine x.names y.names (acts_on_names e.events) e.plays.names;
         explained = record {
           events = e.events;
-          final = with_out e.all y.now;
-          run = subst (λ z. Run k (with_out [] z) e.events (with_out e.all y.now)) at (e.run []);
+          final = with_out e.said y.now;
+          run = subst (λ z. Run k (with_out [] z) e.events (with_out e.said y.now)) at (e.run []);
           ended = e.left;
           input = refl;
-          output = e.output;
+          output = refl;
           idled = refl;
           closed = sym (e.still ∙ (λ i. over e.events || f.over i) ∙ or_nothing (over e.events));
           clock = e.clock;

@@ -10,5 +10,6 @@ pub mod Sendings
 pub mod Shelves
 pub mod Steps
 pub mod Tellings
+pub mod Unsent
 pub mod Upward
 pub mod Worked

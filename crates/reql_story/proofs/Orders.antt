@@ -53,7 +53,7 @@ module _ {PL : Type 0} (k : Talk PL) where
   handled m n (Greeted true ∷ es) r =
       let rest = handled r.0 n es r.2 in
       elim r.1.2 [
-        | inl g ↦ (let h = held_of _ _ g.2 in let more = still _ _ _ rest.began h.1 in record {
+        | inl g ↦ (let h = held_of _ _ g.4 in let more = still _ _ _ rest.began h.1 in record {
           greeting = take g.0 m.held;
           input = ap (λ z. z ++ heard es) (sym (take-append-drop g.0 m.held)) ∙ append_assoc (take g.0 m.held) (drop g.0 m.held) (heard es)
               ∙ ap (λ z. take g.0 m.held ++ (z ++ heard es)) (sym h.0) ∙ ap (λ z. take g.0 m.held ++ z) (rest.input ∙ ap (λ z. z ++ (spellings (begun es) ++ n.held)) more.0);
@@ -61,12 +61,12 @@ module _ {PL : Type 0} (k : Talk PL) where
           each = rest.each;
           before = rest.before;
         })
-        | inr g ↦ (let h = held_of _ _ g.2 in same m r.0 n (Greeted true) es refl refl h.0 h.1 rest)
+        | inr g ↦ (let h = held_of _ _ g.4 in same m r.0 n (Greeted true) es refl refl h.0 h.1 rest)
       ]
   handled m n (Greeted false ∷ es) r =
       elim r.1.2 [
-        | inl g ↦ (let h = held_of _ _ g.2 in same m r.0 n (Greeted false) es refl refl h.0 h.1 (handled r.0 n es r.2))
-        | inr g ↦ (let h = held_of _ _ g.2 in same m r.0 n (Greeted false) es refl refl h.0 h.1 (handled r.0 n es r.2))
+        | inl g ↦ (let h = held_of _ _ g.4 in same m r.0 n (Greeted false) es refl refl h.0 h.1 (handled r.0 n es r.2))
+        | inr g ↦ (let h = held_of _ _ g.4 in same m r.0 n (Greeted false) es refl refl h.0 h.1 (handled r.0 n es r.2))
       ]
   handled m n (Begin frame is_read ∷ es) r =
       let s = r.1 in

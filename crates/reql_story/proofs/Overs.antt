@@ -43,8 +43,8 @@ module _ {PL : Type 0} (k : Talk PL) where
   back : (m n : Mach PL) (e : Event) → Step k m e n → IsLeaving n.doing → IsLeaving m.doing ⊎ (over (e ∷ []) ≡ true)
   back m n Turn s h = inl (no m n _ (doing_of _ _ s.1) (λ x. x) h)
   back m n Visit s h = inl (on m n (Some s.1) _ (doing_of _ _ s.3) h)
-  back m n (Greeted true) s h = elim s.2 [ inl g ↦ inl (no m n _ (doing_of _ _ g.2) (λ x. x) h) | inr g ↦ inl (no m n _ (doing_of _ _ g.2) (λ x. x) h) ]
-  back m n (Greeted false) s h = elim s.2 [ inl g ↦ inl (no m n _ (doing_of _ _ g.2) (λ x. x) h) | inr g ↦ inl (no m n _ (doing_of _ _ g.2) (λ x. x) h) ]
+  back m n (Greeted true) s h = elim s.2 [ inl g ↦ inl (no m n _ (doing_of _ _ g.4) (λ x. x) h) | inr g ↦ inl (no m n _ (doing_of _ _ g.4) (λ x. x) h) ]
+  back m n (Greeted false) s h = elim s.2 [ inl g ↦ inl (no m n _ (doing_of _ _ g.4) (λ x. x) h) | inr g ↦ inl (no m n _ (doing_of _ _ g.4) (λ x. x) h) ]
   back m n (Begin frame is_read) s h = inl (on m n None _ (doing_of _ _ s.5) h)
   back m n (Heard bytes) s h = inl (no m n _ (doing_of _ _ s.2) (λ x. x) h)
   back m n (Lost bytes) s h = inl (no m n _ (doing_of _ _ s.2) (λ x. x) h)

@@ -35,10 +35,10 @@ module _ {PL : Type 0} (k : Talk PL) where
   left_step m n Turn s h = subst IsLeft (sym s.1) tt
   left_step m n Visit s h = subst IsLeft (sym s.3) (left_by m (Some s.1) (visit k m.books s.0))
   left_step m n (Greeted true) s h = elim s.2 [
-    | inl g ↦ subst IsLeft (sym g.2) tt
-    | inr g ↦ subst IsLeft (sym g.2) (s.1, g.1)
+    | inl g ↦ subst IsLeft (sym g.4) tt
+    | inr g ↦ subst IsLeft (sym g.4) (s.1, g.1)
   ]
-  left_step m n (Greeted false) s h = elim s.2 [ inl g ↦ subst IsLeft (sym g.2) tt | inr g ↦ subst IsLeft (sym g.2) tt ]
+  left_step m n (Greeted false) s h = elim s.2 [ inl g ↦ subst IsLeft (sym g.4) tt | inr g ↦ subst IsLeft (sym g.4) tt ]
   left_step m n (Begin frame is_read) s h = subst IsLeft (sym s.5) (left_by (record m { held = s.0 }) None (takes_up k m.books frame.token frame.body is_read))
   left_step m n (Heard bytes) s h = subst IsLeft (sym s.2) tt
   left_step m n (Lost bytes) s h = subst IsLeft (sym s.2) tt

@@ -26,7 +26,7 @@ use Rattle.reql_story.specs.Requests.{TellTime, Clocked, Roll, Rolled, Arm, Answ
 use Rattle.reql_story.specs.Books.{Books, all_arms}
 use Rattle.reql_story.specs.Tasks.{found_more, Asks, Talk, Task, Telling, told, visit, takes_up, wanted}
 use Rattle.reql_story.specs.Session.{Greeted, Clock, Dice, greets_back, turns_away, Event, Turn, Visit, Begin, Heard, Quiet, Finish, Broken, Long, Lost, Wear, Poor, On, OnNames, Say, Want, Rest, Visits, Busy, Leaving, Mach, goes_on, leaves, end_of, spoken, IsPiece, Unread, MayStarve, Step, heard, idles, turns, over, clocked, rolled, acts_on, acts_on_names}
-use Rattle.reql_story.specs.Explained.{IsHonest, Says}
+use Rattle.reql_story.specs.Explained.{IsHonest}
 use Rattle.reql_story.specs.Worlds.{OnSlot, Place, sound_at, with_out, faulted, DeskPlays, Does, Goes, Why, Ended}
 use Rattle.reql_story.specs.declared.end.End.{End}
 use Rattle.reql_story.specs.declared.end.End.TheVariants as ends
@@ -151,7 +151,7 @@ module _ {PL : Type 0} (k : Talk PL) where
   pub does_say : (x : Place PL) (back : Option (List ℕ)) (token : ℕ) (a : Answer) (kept : Books) (lose after : Option (List Arm)) → x.now.doing ≡ Busy back (Telling token a kept lose after) →
       Does k x (moved x (goes_on x.now back (told token kept after))) (spoken token a)
   does_say x back token a kept lose after e = does_step x _ (Say token a true) (spoken token a) (record { bytes = refl; idle = refl; turn = refl; still = refl; clock = refl; dice = refl; apart = record { slot = λ s. refl; name = refl; honest = λ s. tt } })
-      (λ out. record { back = back; kept = kept; lose = lose; after = after; doing = e; goes = refl })
+      (λ out. record { back = back; kept = kept; lose = lose; after = after; front = spoken token a; doing = e; sent = refl; goes = refl })
 
   pub does_want : (x : Place PL) (back : Option (List ℕ)) (task : Task PL) → x.now.doing ≡ Busy back task → Does k x (moved x (goes_on x.now back (wanted x.now.books task))) []
   does_want x back task e = does_step x _ Want [] (record { bytes = refl; idle = refl; turn = refl; still = refl; clock = refl; dice = refl; apart = record { slot = λ s. refl; name = refl; honest = λ s. tt } })
@@ -164,13 +164,11 @@ module _ {PL : Type 0} (k : Talk PL) where
   goes_idle t u x e r m = goes_step t u x _ Quiet 0 m refl refl refl refl (record { slot = λ s. refl; name = refl; honest = λ s. tt }) (λ out. ((e, r), refl))
 
   -- an end, where nothing is said
-  ends_step : (t u : Tape) (x : Place PL) (n : Mach PL) (e : Event) (end : End) (arms : List Arm) → Says end [] [] → Moves (faulted end t) u (heard (e ∷ [])) [] (idles (e ∷ [])) u.over → u.over ≡ (over (e ∷ []) || t.over) → clocked (e ∷ []) ≡ [] → rolled (e ∷ []) ≡ [] → turns (e ∷ []) ≡ 0 → IsApart e →
+  ends_step : (t u : Tape) (x : Place PL) (n : Mach PL) (e : Event) (end : End) (arms : List Arm) → Moves (faulted end t) u (heard (e ∷ [])) [] (idles (e ∷ [])) u.over → u.over ≡ (over (e ∷ []) || t.over) → clocked (e ∷ []) ≡ [] → rolled (e ∷ []) ≡ [] → turns (e ∷ []) ≡ 0 → IsApart e →
       n.doing ≡ Leaving arms end → Why k end n.held u.over → ((out : List ℕ) → Step k (with_out out x.now) e (with_out out n)) → Ended k t u x (moved x n) [] [] end arms 0
-  ends_step t u x n e end arms s m o c d r a l w f = record {
+  ends_step t u x n e end arms m o c d r a l w f = record {
     events = e ∷ [];
     said = [];
-    all = [];
-    output = s;
     run = λ out. (with_out out n, f out, ap (λ o. with_out o n) (append-nil out));
     left = l;
     moves = m;
@@ -183,27 +181,27 @@ module _ {PL : Type 0} (k : Talk PL) where
   }
 
   pub ends_closed : (t u : Tape) (x : Place PL) → x.now.doing ≡ Visits [] → Unread k x.now.greeted x.now.held → x.now.held ≡ [] → Moves t u [] [] 0 true → Ended k t u x (moved x (leaves x.now x.now.books (end_of x.now.held))) [] [] ends.Closed (all_arms x.now.books) 0
-  ends_closed t u x e r h m = ends_step t u x _ Finish ends.Closed (all_arms x.now.books) refl (subst (λ o. Moves t u [] [] 0 o) (sym m.ended) m) m.ended refl refl refl (record { slot = λ s. refl; name = refl; honest = λ s. tt }) (ap (λ z. Leaving (all_arms x.now.books) (end_of z)) h) (m.ended, h) (λ out. ((e, r), refl))
+  ends_closed t u x e r h m = ends_step t u x _ Finish ends.Closed (all_arms x.now.books) (subst (λ o. Moves t u [] [] 0 o) (sym m.ended) m) m.ended refl refl refl (record { slot = λ s. refl; name = refl; honest = λ s. tt }) (ap (λ z. Leaving (all_arms x.now.books) (end_of z)) h) (m.ended, h) (λ out. ((e, r), refl))
 
   pub ends_cut : (t u : Tape) (x : Place PL) (b : ℕ) (bs : List ℕ) → x.now.doing ≡ Visits [] → Unread k x.now.greeted x.now.held → x.now.held ≡ b ∷ bs → Moves t u [] [] 0 true → Ended k t u x (moved x (leaves x.now x.now.books (end_of x.now.held))) [] [] (ends.Cut (length (b ∷ bs))) (all_arms x.now.books) 0
-  ends_cut t u x b bs e r h m = ends_step t u x (leaves x.now x.now.books (end_of x.now.held)) Finish (ends.Cut (length (b ∷ bs))) (all_arms x.now.books) refl (subst (λ o. Moves t u [] [] 0 o) (sym m.ended) m) m.ended refl refl refl (record { slot = λ s. refl; name = refl; honest = λ s. tt })
+  ends_cut t u x b bs e r h m = ends_step t u x (leaves x.now x.now.books (end_of x.now.held)) Finish (ends.Cut (length (b ∷ bs))) (all_arms x.now.books) (subst (λ o. Moves t u [] [] 0 o) (sym m.ended) m) m.ended refl refl refl (record { slot = λ s. refl; name = refl; honest = λ s. tt })
       (ap (λ z. Leaving (all_arms x.now.books) (end_of z)) h) (m.ended, sym (ap length h), omega arith) (λ out. ((e, r), refl))
 
   pub ends_broken : (t u : Tape) (x : Place PL) → x.now.doing ≡ Visits [] → Unread k x.now.greeted x.now.held → Moves (recv_failed t) u [] [] 0 t.over → Ended k t u x (moved x (leaves x.now x.now.books ends.ReadFault)) [] [] ends.ReadFault (all_arms x.now.books) 0
-  ends_broken t u x e r m = ends_step t u x _ Broken ends.ReadFault (all_arms x.now.books) refl (subst (λ o. Moves (recv_failed t) u [] [] 0 o) (sym m.ended) m) m.ended refl refl refl (record { slot = λ s. refl; name = refl; honest = λ s. tt }) refl tt (λ out. ((e, r), refl))
+  ends_broken t u x e r m = ends_step t u x _ Broken ends.ReadFault (all_arms x.now.books) (subst (λ o. Moves (recv_failed t) u [] [] 0 o) (sym m.ended) m) m.ended refl refl refl (record { slot = λ s. refl; name = refl; honest = λ s. tt }) refl tt (λ out. ((e, r), refl))
 
   pub ends_worn : (t : Tape) (x : Place PL) → x.now.doing ≡ Rest → Ended k t t x (moved x (leaves x.now x.now.books ends.Worn)) [] [] ends.Worn (all_arms x.now.books) 0
-  ends_worn t x e = ends_step t t x _ Wear ends.Worn (all_arms x.now.books) refl (same_moves t) refl refl refl refl (record { slot = λ s. refl; name = refl; honest = λ s. tt }) refl tt (λ out. (e, refl))
+  ends_worn t x e = ends_step t t x _ Wear ends.Worn (all_arms x.now.books) (same_moves t) refl refl refl refl (record { slot = λ s. refl; name = refl; honest = λ s. tt }) refl tt (λ out. (e, refl))
 
   pub ends_lost : (t u : Tape) (x : Place PL) (bytes : List ℕ) → x.now.doing ≡ Visits [] → Unread k x.now.greeted x.now.held → IsPiece bytes → Moves t u bytes [] 0 t.over → Ended k t u x (moved x (leaves (record x.now { held = x.now.held ++ bytes }) x.now.books ends.Memory)) [] [] ends.Memory (all_arms x.now.books) 0
-  ends_lost t u x bytes e r p m = ends_step t u x (leaves (record x.now { held = x.now.held ++ bytes }) x.now.books ends.Memory) (Lost bytes) ends.Memory (all_arms x.now.books) refl (subst (λ z. Moves t u z [] 0 u.over) (sym (append-nil bytes)) (subst (λ o. Moves t u bytes [] 0 o) (sym m.ended) m)) m.ended refl refl refl
+  ends_lost t u x bytes e r p m = ends_step t u x (leaves (record x.now { held = x.now.held ++ bytes }) x.now.books ends.Memory) (Lost bytes) ends.Memory (all_arms x.now.books) (subst (λ z. Moves t u z [] 0 u.over) (sym (append-nil bytes)) (subst (λ o. Moves t u bytes [] 0 o) (sym m.ended) m)) m.ended refl refl refl
       (record { slot = λ s. refl; name = refl; honest = λ s. tt }) refl tt (λ out. ((e, r), p, refl))
 
   pub ends_long : (t : Tape) (x : Place PL) (len : ℕ) → x.now.doing ≡ Visits [] → x.now.greeted ≡ true → Over k.limits.frame x.now.held len → Ended k t t x (moved x (leaves x.now x.now.books (ends.TooLong len))) [] [] (ends.TooLong len) (all_arms x.now.books) 0
-  ends_long t x len e g o = ends_step t t x (leaves x.now x.now.books (ends.TooLong len)) (Long len) (ends.TooLong len) (all_arms x.now.books) refl (same_moves t) refl refl refl refl (record { slot = λ s. refl; name = refl; honest = λ s. tt }) refl o (λ out. (e, g, o, refl))
+  ends_long t x len e g o = ends_step t t x (leaves x.now x.now.books (ends.TooLong len)) (Long len) (ends.TooLong len) (all_arms x.now.books) (same_moves t) refl refl refl refl (record { slot = λ s. refl; name = refl; honest = λ s. tt }) refl o (λ out. (e, g, o, refl))
 
   pub ends_poor : (t : Tape) (x : Place PL) → MayStarve k x.now → Ended k t t x (moved x (leaves x.now x.now.books ends.Memory)) [] [] ends.Memory (all_arms x.now.books) 0
-  ends_poor t x e = ends_step t t x (leaves x.now x.now.books ends.Memory) Poor ends.Memory (all_arms x.now.books) refl (same_moves t) refl refl refl refl (record { slot = λ s. refl; name = refl; honest = λ s. tt }) refl tt (λ out. (e, refl))
+  ends_poor t x e = ends_step t t x (leaves x.now x.now.books ends.Memory) Poor ends.Memory (all_arms x.now.books) (same_moves t) refl refl refl refl (record { slot = λ s. refl; name = refl; honest = λ s. tt }) refl tt (λ out. (e, refl))
 
   -- an answer that went out in part
   pub ends_unsent : (t u : Tape) (x : Place PL) (back : Option (List ℕ)) (token : ℕ) (a : Answer) (kept : Books) (lose after : Option (List Arm)) → x.now.doing ≡ Busy back (Telling token a kept lose after) → SendsAll t u (spoken token a) false →
@@ -211,9 +209,7 @@ module _ {PL : Type 0} (k : Talk PL) where
   ends_unsent t u x back token a kept lose after e s = record {
     events = Say token a false ∷ [];
     said = s.0;
-    all = spoken token a;
-    output = (s.1, s.2);
-    run = λ out. (with_out (out ++ spoken token a) (leaves x.now kept ends.WriteFault), record { back = back; kept = kept; lose = lose; after = after; doing = e; goes = refl }, refl);
+    run = λ out. (with_out (out ++ s.0) (leaves x.now kept ends.WriteFault), record { back = back; kept = kept; lose = lose; after = after; front = s.0; doing = e; sent = (s.1, s.2, s.3); goes = refl }, refl);
     left = refl;
     moves = subst (λ o. Moves (send_failed t) u [] s.0 0 o) (sym s.4.ended) s.4;
     still = s.4.ended;
@@ -227,7 +223,7 @@ module _ {PL : Type 0} (k : Talk PL) where
   -- ---- the greeting
   pub does_greeted : (x : Place PL) (used : ℕ) → x.now.doing ≡ Visits [] → x.now.greeted ≡ false → Greets k.key x.now.held (greeting.Accepted used) → Does k x (moved x (greets_back x.now used true)) accepted
   does_greeted x used e g h = does_step x (greets_back x.now used true) (Greeted true) accepted (record { bytes = refl; idle = refl; turn = refl; still = refl; clock = refl; dice = refl; apart = record { slot = λ s. refl; name = refl; honest = λ s. tt } })
-      (λ out. (e, g, inl (used, h, refl)))
+      (λ out. (e, g, inl (used, h, accepted, refl, refl)))
 
   -- it is refused, and that was told
   pub ends_refused : (t u : Tape) (x : Place PL) (fault : GreetFault) → x.now.doing ≡ Visits [] → x.now.greeted ≡ false → Greets k.key x.now.held (greeting.Refused fault) → Moves t u [] (refusal fault) 0 t.over →
@@ -235,9 +231,7 @@ module _ {PL : Type 0} (k : Talk PL) where
   ends_refused t u x fault e g h m = record {
     events = Greeted true ∷ [];
     said = refusal fault;
-    all = refusal fault;
-    output = refl;
-    run = λ out. (with_out (out ++ refusal fault) (turns_away x.now fault true), (e, g, inr (fault, h, refl)), refl);
+    run = λ out. (with_out (out ++ refusal fault) (turns_away x.now fault true), (e, g, inr (fault, h, refusal fault, refl, refl)), refl);
     left = refl;
     moves = subst (λ o. Moves t u [] (refusal fault) 0 o) (sym m.ended) m;
     still = m.ended;
@@ -254,9 +248,7 @@ module _ {PL : Type 0} (k : Talk PL) where
   ends_ungreeted t u x used e g h s = record {
     events = Greeted false ∷ [];
     said = s.0;
-    all = accepted;
-    output = (s.1, s.2);
-    run = λ out. (with_out (out ++ accepted) (greets_back x.now used false), (e, g, inl (used, h, refl)), refl);
+    run = λ out. (with_out (out ++ s.0) (greets_back x.now used false), (e, g, inl (used, h, s.0, (s.1, s.2, s.3), refl)), refl);
     left = refl;
     moves = subst (λ o. Moves (send_failed t) u [] s.0 0 o) (sym s.4.ended) s.4;
     still = s.4.ended;
@@ -272,9 +264,7 @@ module _ {PL : Type 0} (k : Talk PL) where
   ends_unrefused t u x fault e g h s = record {
     events = Greeted false ∷ [];
     said = s.0;
-    all = refusal fault;
-    output = (s.1, s.2);
-    run = λ out. (with_out (out ++ refusal fault) (turns_away x.now fault false), (e, g, inr (fault, h, refl)), refl);
+    run = λ out. (with_out (out ++ s.0) (turns_away x.now fault false), (e, g, inr (fault, h, s.0, (s.1, s.2, s.3), refl)), refl);
     left = refl;
     moves = subst (λ o. Moves (send_failed t) u [] s.0 0 o) (sym s.4.ended) s.4;
     still = s.4.ended;

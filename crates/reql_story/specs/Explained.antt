@@ -1,5 +1,5 @@
 -- When a hall explains a session, and what its feeds were sent.
-use Rattle.std.specs.Prelude.{◌≡◌, ◌≤◌, ℕ, ℤ, nat_eq, Bool, true, false, ◌&&◌, cond, List, [], ◌∷◌, ◌++◌, flat_map, Option}
+use Rattle.std.specs.Prelude.{◌≡◌, ◌≤◌, ℕ, ℤ, nat_eq, Bool, true, false, ◌&&◌, cond, List, [], ◌∷◌, flat_map, Option}
 use Rattle.std.specs.List.{AllByRecursion}
 use Rattle.reql_datum.specs.Plain.{Plain}
 use Rattle.reql_shared.specs.Acts.{Ran}
@@ -36,11 +36,6 @@ pub record Life : Type 0 where
   pub turns : ℕ
   pub end : End
 
--- where writing failed, what was sent is a front of the output
-abbrev pub Says : End → List ℕ → List ℕ → Type 0
-Says ends.WriteFault sent output = (more : List ℕ) × (output ≡ sent ++ more)
-Says end sent output = sent ≡ output
-
 -- a session has no more turns than its limit, and is worn where it has used them up
 pub record Wears (most : ℕ) (turns : ℕ) (end : End) : Type 0 where
   pub within : turns ≤ most
@@ -68,7 +63,7 @@ module _ {PL : Type 0} (k : Talk PL) where
     pub run : Run k fresh events final
     pub ended : final.doing ≡ Leaving [] life.end
     pub input : heard events ≡ life.given
-    pub output : Says life.end life.sent final.out
+    pub output : life.sent ≡ final.out
     pub idled : idles events ≡ life.idles
     pub closed : over events ≡ life.over
     pub clock : clocked events ≡ life.moments

@@ -6,7 +6,7 @@ use Rattle.reql_wire.specs.Frames.{Fits, Over, spellings}
 use Rattle.reql_wire.specs.Greeting.{Greets}
 use Rattle.reql_wire.specs.declared.frame.Frame.{Frame}
 use Rattle.reql_wire.specs.declared.greeter.Greeting.TheVariants as greeting
-use Rattle.reql_shared.specs.Acts.{Ran}
+use Rattle.reql_shared.specs.Acts.{Ran, Denied}
 use Rattle.reql_shared.specs.History.{own}
 use Rattle.reql_shared.specs.Machine.{replay}
 use Rattle.reql_shared.specs.Parts.{Part, between}
@@ -26,8 +26,8 @@ use Rattle.reql_law.specs.declared.command.Cmd.TheVariants as cmds
 use Rattle.reql_law.specs.declared.command.FeedSpec.{FeedSpec}
 use Rattle.reql_law.specs.declared.command.Order.{Order}
 use Rattle.reql_law.specs.declared.reply.Saved.{Saved}
-use Rattle.reql_story.specs.Tasks.{Talk}
-use Rattle.reql_story.specs.Session.{Event, On, Mach, fresh, Unread, Run, heard, begun, acts_on}
+use Rattle.reql_story.specs.Tasks.{Talk, close_order}
+use Rattle.reql_story.specs.Session.{Event, Greeted, On, Say, Mach, fresh, Unread, Run, heard, begun, acts_on}
 use Rattle.reql_story.specs.Explained.{DeskShare, DeskSeen, Life, Explained, ExplainedBy, sent_of}
 use Rattle.reql_story.specs.declared.end.End.{End}
 use Rattle.reql_story.specs.declared.end.End.TheVariants as ends
@@ -39,6 +39,18 @@ Desk = Sitting Order State CatCmd Catalog
 pub record NoneLeft {C S : Type 0} (whole : Part C S) (parts : List (Part C S)) : Type 0 where
   pub owned : own whole.number whole.during ≡ flat_map (λ (p : Part C S). own p.number p.during) parts
   pub marks : whole.marks ≡ flat_map (λ (p : Part C S). p.marks) parts
+
+-- an answer, to a request or to a greeting, that was sent in part alone
+abbrev pub IsUnsent : Event → Type 0
+IsUnsent (Greeted false) = Unit {0}
+IsUnsent (Say token a false) = Unit {0}
+IsUnsent e = ⊥
+
+-- a feed is closed, or that is refused for memory
+abbrev pub IsClosing : Event → Type 0
+IsClosing (On slot (Ran place order reply) saved) = (feed : ℕ) × (order ≡ close_order feed)
+IsClosing (On slot (Denied place) saved) = Unit {0}
+IsClosing e = ⊥
 
 module _ {PL : Type 0} (k : Talk PL) where
   -- a greeting that was accepted, with what came behind it
@@ -82,6 +94,13 @@ module _ {PL : Type 0} (k : Talk PL) where
   -- some bytes, is idle, or is the last.
   abbrev pub WornLate : Type 0
   WornLate = (share : DeskShare) (life : Life) → Explained k share life → life.end ≡ ends.Worn → k.limits.turns < ((length life.given + length life.given) + life.idles) + 2
+
+  -- The first failed send ends a session: where an answer was sent in part alone, nothing but closings comes after it, and the end
+  -- is WriteFault; and a session ends so only where one was.
+  abbrev pub FirstFailed : Type 0
+  FirstFailed = (share : DeskShare) (life : Life) (e : Explained k share life) →
+      ((before : List Event) (x : Event) (after : List Event) → e.events ≡ before ++ x ∷ after → IsUnsent x → (life.end ≡ ends.WriteFault) × AllByRecursion IsClosing after)
+      × (life.end ≡ ends.WriteFault → (before : List Event) × (x : Event) × (after : List Event) × (e.events ≡ before ++ x ∷ after) × IsUnsent x)
 
   -- a greeting that is accepted, then these frames, each within the limit, and nothing else
   pub record Brings (bytes : List ℕ) (frames : List Frame) : Type 0 where

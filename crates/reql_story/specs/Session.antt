@@ -1,5 +1,5 @@
 -- The session machine: what a session remembers, and its events.
-use Rattle.std.specs.Prelude.{◌≡◌, ◌⊎◌, ◌≤◌, ℕ, ℤ, ◌+◌, nat_eq, if◌then◌else◌, Bool, true, false, List, [], ◌∷◌, ◌++◌, length, drop, flat_map, Option, Some, None}
+use Rattle.std.specs.Prelude.{◌≡◌, ◌⊎◌, ◌<◌, ◌≤◌, ℕ, ℤ, ◌+◌, nat_eq, if◌then◌else◌, Bool, true, false, List, [], ◌∷◌, ◌++◌, length, drop, flat_map, Option, Some, None}
 use Rattle.reql_wire.specs.Frames.{Fits, NoFrame, HoldsFrame, Over, spelling, front}
 use Rattle.reql_wire.specs.Frames as frames
 use Rattle.reql_wire.specs.Greeting.{Greets, accepted, refusal}
@@ -56,7 +56,7 @@ pub data Doing (PL : Type 0) : Type 0 where
   Busy : Option (List ℕ) → Task PL → Doing PL
   Leaving : List Arm → End → Doing PL
 
--- the bytes held, whether the greeting was accepted, what is kept, what it is doing, and what was said so far
+-- the bytes held, whether the greeting was accepted, what is kept, what it is doing, and what was sent so far
 pub record Mach (PL : Type 0) : Type 0 where
   pub held : List ℕ
   pub greeted : Bool
@@ -68,6 +68,11 @@ pub record Mach (PL : Type 0) : Type 0 where
 abbrev pub end_of : List ℕ → End
 end_of [] = ends.Closed
 end_of (b ∷ bs) = ends.Cut (length (b ∷ bs))
+
+-- what was sent of a piece: all of it, or a front, where something of it is left
+abbrev pub Sent : Bool → List ℕ → List ℕ → Type 0
+Sent true piece front = front ≡ piece
+Sent false piece front = (back : List ℕ) × (piece ≡ front ++ back) × (0 < length back)
 
 -- what one receive gives, which has room for 65536 bytes
 pub record IsPiece (bytes : List ℕ) : Type 0 where
@@ -96,7 +101,8 @@ module _ {PL : Type 0} where
   abbrev pub leaves : Mach PL → Books → End → Mach PL
   leaves m b end = record m { doing = Leaving (all_arms b) end }
 
-  -- an answer to a token, sent whole or not
+  -- An answer to a token, sent whole or not. After one that wasn't, as after the answer to a greeting that wasn't, the machine
+  -- leaves: it takes no more, and only the arms that are kept are closed.
   abbrev pub tells : Mach PL → Option (List ℕ) → ℕ → Books → Option (List Arm) → Bool → Mach PL
   tells m back token kept after true = goes_on m back (told token kept after)
   tells m back token kept after false = leaves m kept ends.WriteFault
@@ -178,13 +184,16 @@ module _ {PL : Type 0} (k : Talk PL) where
     pub there : slot ≡ arm.slot
     pub goes : n ≡ record m { doing = Leaving arms end }
 
+  -- an answer, of which this much was sent
   pub record Tells (m : Mach PL) (token : ℕ) (a : Answer) (whole : Bool) (n : Mach PL) : Type 0 where
     pub back : Option (List ℕ)
     pub kept : Books
     pub lose : Option (List Arm)
     pub after : Option (List Arm)
+    pub front : List ℕ
     pub doing : m.doing ≡ Busy back (Telling token a kept lose after)
-    pub goes : n ≡ says (tells m back token kept after whole) (spoken token a)
+    pub sent : Sent whole (spoken token a) front
+    pub goes : n ≡ says (tells m back token kept after whole) front
 
   pub record Wants (m : Mach PL) (n : Mach PL) : Type 0 where
     pub back : Option (List ℕ)
@@ -194,8 +203,8 @@ module _ {PL : Type 0} (k : Talk PL) where
 
   abbrev pub GreetStep : Mach PL → Bool → Mach PL → Type 0
   GreetStep m whole n = (m.doing ≡ Visits []) × (m.greeted ≡ false)
-      × (((used : ℕ) × Greets k.key m.held (greeting.Accepted used) × (n ≡ says (greets_back m used whole) accepted))
-      ⊎ ((fault : GreetFault) × Greets k.key m.held (greeting.Refused fault) × (n ≡ says (turns_away m fault whole) (refusal fault))))
+      × (((used : ℕ) × Greets k.key m.held (greeting.Accepted used) × (front : List ℕ) × Sent whole accepted front × (n ≡ says (greets_back m used whole) front))
+      ⊎ ((fault : GreetFault) × Greets k.key m.held (greeting.Refused fault) × (front : List ℕ) × Sent whole (refusal fault) front × (n ≡ says (turns_away m fault whole) front)))
 
   abbrev pub Step : Mach PL → Event → Mach PL → Type 0
   Step m Turn n = (m.doing ≡ Rest) × (n ≡ record m { books = record m.books { waiting = [] }; doing = Visits m.books.waiting })

@@ -20,7 +20,7 @@ use Rattle.reql_law.specs.declared.command.Order.{Order}
 use Rattle.reql_story.specs.Requests.{Arm}
 use Rattle.reql_story.specs.Tasks.{Talk}
 use Rattle.reql_story.specs.Session.{Event, Mach, Leaving, Run, heard, idles, turns, over, clocked, rolled, acts_on, acts_on_names}
-use Rattle.reql_story.specs.Explained.{DeskShare, Life, AreHonest, Explained, Says}
+use Rattle.reql_story.specs.Explained.{DeskShare, Life, AreHonest, Explained}
 use Rattle.reql_story.specs.declared.end.End.{End}
 use Rattle.reql_story.specs.declared.end.End.TheVariants as ends
 
@@ -89,7 +89,7 @@ module _ {PL : Type 0} where
     pub honest : AreHonest (sound_at x) events
 
 module _ {PL : Type 0} (k : Talk PL) where
-  -- from x to y without the link, the clock and the dice, with what is to be said for it
+  -- from x to y without the link, the clock and the dice, with what is to be sent for it
   pub record Does (x y : Place PL) (said : List ℕ) : Type 0 where
     pub events : List Event
     pub bytes : heard events ≡ []
@@ -121,14 +121,11 @@ module _ {PL : Type 0} (k : Talk PL) where
   Why (ends.TooLong len) held is_over = Over k.limits.frame held len
   Why end held is_over = Unit {0}
 
-  -- From x the session came to this end, with these arms still to be closed. Where writing failed, what was said is a front
-  -- of what is to be said.
+  -- from x the session came to this end, with these arms still to be closed
   pub record Ended (t u : Tape) (x y : Place PL) (moments : List (Option ℤ)) (rolls : List (Option (List ℕ))) (end : End) (arms : List Arm) (n : ℕ) : Type 0 where
     pub events : List Event
     pub said : List ℕ
-    pub all : List ℕ
-    pub output : Says end said all
-    pub run : (out : List ℕ) → Run k (with_out out x.now) events (with_out (out ++ all) y.now)
+    pub run : (out : List ℕ) → Run k (with_out out x.now) events (with_out (out ++ said) y.now)
     pub left : y.now.doing ≡ Leaving arms end
     pub moves : Moves (faulted end t) u (heard events) said (idles events) u.over
     pub still : u.over ≡ (over events || t.over)

@@ -1,7 +1,7 @@
 // Laws of explained sessions.
 ghost use Rattle.reql_hall.specs.Shares.{IsKept};
 ghost use Rattle.reql_story.specs.Explained.{ExplainedBy};
-ghost use Rattle.reql_story.specs.Laws.{InOrder, FramesHandled, WornLate, ValidCloses, OneMore, Learning, NothingLeft, FeedsHold};
+ghost use Rattle.reql_story.specs.Laws.{InOrder, FramesHandled, WornLate, FirstFailed, ValidCloses, OneMore, Learning, NothingLeft, FeedsHold};
 
 use crate::planning::Planning;
 
@@ -21,6 +21,12 @@ pub fn frames_handled<F: Planning>()
 /// their limit: each turn takes a greeting, a frame or some bytes, is idle, or is the last.
 pub fn worn_late<F: Planning>()
     ensures { (f : F) → WornLate (F.talk f) }
+{}
+
+/// The first failed send ends a session: after an answer that was sent in part alone only feeds are closed, and the end is
+/// WriteFault; and a session ends so only after such an answer.
+pub fn first_failed<F: Planning>()
+    ensures { (f : F) → FirstFailed (F.talk f) }
 {}
 
 /// What a session was given, with more to come only where its input wasn't over, is valid where it is nothing, or a

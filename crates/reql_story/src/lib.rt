@@ -11,7 +11,9 @@ mod rows;
 mod sample;
 
 pub use end::End;
-pub use laws::{feeds_hold, frames_handled, in_order, joined, kept, valid_closes, worn_late};
+pub use laws::{
+    feeds_hold, first_failed, frames_handled, in_order, joined, kept, valid_closes, worn_late,
+};
 pub use planning::Planning;
 pub use rows::worked_rows;
 pub use sample::SamplePlans;

@@ -34,6 +34,9 @@ AllFramesHandled = (key : List ℕ) (limits : Limits) → story.FramesHandled (t
 abbrev pub AllWornLate : Type 0
 AllWornLate = (key : List ℕ) (limits : Limits) → story.WornLate (talk key limits)
 
+abbrev pub AllFirstFailed : Type 0
+AllFirstFailed = (key : List ℕ) (limits : Limits) → story.FirstFailed (talk key limits)
+
 abbrev pub AllValidClose : Type 0
 AllValidClose = (key : List ℕ) (limits : Limits) → story.ValidCloses (talk key limits)
 

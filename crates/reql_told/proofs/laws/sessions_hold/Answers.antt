@@ -3,6 +3,7 @@ use Rattle.reql_story.proofs.Counts as counts
 use Rattle.reql_story.proofs.Feeding.{session_fed}
 use Rattle.reql_story.proofs.Orders.{handled}
 use Rattle.reql_story.proofs.Rests as rests
+use Rattle.reql_story.proofs.Unsent as unsent
 use Rattle.reql_story.proofs.Upward as upward
 use Rattle.reql_told.specs.Told.{talk, comes_by}
 use Rattle.reql_told.specs.Minding.{plans_are_told}
@@ -16,6 +17,9 @@ returns-clause-frames_handled c = λ key limits. rests.frames_handled (talk key 
 
 pub returns-clause-worn_late : goal.returns-clause-worn_late
 returns-clause-worn_late c = λ key limits. counts.worn_late (talk key limits)
+
+pub returns-clause-first_failed : goal.returns-clause-first_failed
+returns-clause-first_failed c = λ key limits. unsent.first_failed (talk key limits)
 
 pub returns-clause-valid_close : goal.returns-clause-valid_close
 returns-clause-valid_close c = λ key limits. closings.valid_closes (talk key limits)
