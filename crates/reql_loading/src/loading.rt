@@ -3,7 +3,7 @@ ghost use Rattle.std.specs.Prelude.{◌<◌, length, map, string_bytes, IfOk, If
 ghost use Rattle.reql_words.specs.Words.{asks};
 ghost use Rattle.reql_core.specs.Core.{state_of};
 ghost use Rattle.reql_open_feed.specs.Open.{held_in};
-ghost use Rattle.reql_told.specs.Laws.{AllInOrder, AllFramesHandled, AllWornLate, AllValidClose, AllFeedsHold};
+ghost use Rattle.reql_told.specs.Laws.{AllInOrder, AllFramesHandled, AllWornLate, AllFirstFailed, AllValidClose, AllFeedsHold};
 ghost use Rattle.reql_serve.specs.Many.{at_end};
 ghost use Rattle.reql_loading.specs.Loading.{IsServed, Loads, Prints, Reports, Unloaded};
 
@@ -27,7 +27,8 @@ use std::thread::Threads;
 #[derive(Drop)]
 pub struct Loaded {
     /// 0: what the sessions left was counted, and printed. 2: the words ask for no load. 5: the sink
-    /// failed. 8: memory was wanted, by a session or to count; or a session was not served whole.
+    /// failed. 8: memory was wanted, by a session or to count; a session was not served whole; or the
+    /// table was dropped, or its first entries are no longer kept.
     pub status: u8,
     /// The sessions, by the desks at which they were served, and the hall with its whole histories.
     /// None with the status 2, and where memory was wanted to begin with.
@@ -97,8 +98,8 @@ fn print<K: Sink>(
 /// opened with to what their query gives.
 ///
 /// With other words the status is 2, and nothing is served or printed. What is proved of every session of these plans stands
-/// beside what these did: its input is handled in order, every whole frame of it, and every feed that it opened folds to the
-/// value of its query. What else is, of planning and refusals, stands beside `run` of `reql_run`.
+/// beside what these did: its input is handled in order, every whole frame of it, it ends with its first failed send, and every
+/// feed that it opened folds to the value of its query. What else is, of planning and refusals, stands beside `run` of `reql_run`.
 pub fn load<R, K: Sink>(rt: &R, alloc: Global, words: &[String], out: &mut K) -> Loaded
 where
     R: Threads + Wait + Sync,
@@ -110,6 +111,7 @@ where
     ensures in_order { AllInOrder }
     ensures frames_handled { AllFramesHandled }
     ensures worn_late { AllWornLate }
+    ensures first_failed { AllFirstFailed }
     ensures valid_close { AllValidClose }
     ensures feeds_hold { AllFeedsHold }
 {
