@@ -16,8 +16,8 @@ pub type Core = TableCore<OpenFeed>;
 pub struct Outcome<L: Link> {
     /// 0: the input ended between two requests. 2: the words ask for no session. 4, 5: a receive, a
     /// send failed. 6: the input ended within a greeting or a request. 7: the greeting was refused.
-    /// 8: memory was wanted before the greeting was answered, or for bytes that came. 9: a request
-    /// was too long, or all turns were used up.
+    /// 8: memory was wanted before the greeting was answered, for bytes that came, or for the body of
+    /// a request. 9: a request was too long, or all turns were used up.
     pub status: u8,
     /// The session, and the hall with its whole histories. Err with the status 2, and where memory was
     /// wanted before a session began: the link as it was handed in, on which nothing was heard or said.
