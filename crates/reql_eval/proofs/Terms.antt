@@ -26,9 +26,3 @@ taken (t ∷ ts) (suc n) = omega (arith, taken ts n)
 pub first_and_rest : (ts : List Term) (d : Term) (n : ℕ) → 0 < length ts → weight (form_of (get_or ts 0 d)) + all_weight (take n (drop 1 ts)) < all_weight ts
 first_and_rest [] d n h = absurd (omega arith)
 first_and_rest (t ∷ ts) d n h = omega (arith, taken ts n)
-
--- and so do two
-pub two_below : (ts : List Term) (d e : Term) → length ts ≡ 2 → weight (form_of (get_or ts 0 d)) + weight (form_of (get_or ts 1 e)) + 1 < all_weight ts
-two_below [] d e h = absurd (omega arith)
-two_below (t ∷ []) d e h = absurd (omega arith)
-two_below (t ∷ u ∷ ts) d e h = omega arith

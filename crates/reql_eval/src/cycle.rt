@@ -26,6 +26,7 @@ use reql_sense::{
     Vars, arg_of, callee, direction, function_in, is_fit, is_true_value, is_whole, late, object_of,
     of_nothing, or_caught, raising, something, stops_at, takes_key,
 };
+use reql_simple::found;
 use reql_term::{Op, TableView, Term, TermFields, Way};
 use std::alloc::Global;
 use std::slice;
@@ -52,6 +53,23 @@ pub(crate) fn eval_term<V: TableView>(
         Term::Op { op, args, opts } => {
             eval_operation(alloc, *op, args.as_slice(), opts, world, vars)
         }
+    }
+}
+
+// A term that is no part of a simple one, by what it stands for where it is simple.
+#[cycle(eval)]
+fn eval_simply<V: TableView>(
+    alloc: Global,
+    term: &Term,
+    world: &World<V>,
+    vars: &Vars,
+) -> Result<Value, Fault>
+    ensures { let w = seen V.documents V.indexes V.entries world.now in
+        Gives (meant w) result (value (sense (form_of term.now)) w (bound vars.now)) }
+{
+    match found(term, world.array_limit, vars) {
+        Some(x) => Ok(Value::One(x.to_datum()?)),
+        None => eval_term(alloc, term, world, vars),
     }
 }
 
@@ -445,7 +463,7 @@ fn eval_option<V: TableView>(
         Gives (shown w) result
         (option (sense (form_of term.now)) w (bound vars.now)) }
 {
-    let value = eval_term(alloc, term, world, vars)?;
+    let value = eval_simply(alloc, term, world, vars)?;
     Ok(Arg::Value(value))
 }
 
@@ -513,7 +531,7 @@ fn call_body<V: TableView>(
             values,
             up: vars,
         };
-        return eval_term(alloc, body, world, &inner);
+        return eval_simply(alloc, body, world, &inner);
     }
     Err(Fault::QueryLogic(wrong_count(alloc, ids.len(), values.len())?))
 }
@@ -757,7 +775,7 @@ fn test_term<V: TableView>(
 
 // DEFAULT.
 #[cycle(eval)]
-#[tactic(auto, using(crate::proofs::Terms::two_below))]
+#[tactic(auto, using(reql_sense::proofs::Terms::two_below))]
 fn eval_default<V: TableView>(
     alloc: Global,
     terms: &[Term],

@@ -41,3 +41,9 @@ pub slot_past : (ts : List Term) (i : ℕ) → length ts ≤ i → slice_get (li
 slot_past [] i h = refl
 slot_past (t ∷ ts) zero h = absurd (omega arith)
 slot_past (t ∷ ts) (suc i) h = slot_past ts i (omega arith)
+
+-- two terms weigh less together than their list
+pub two_below : (ts : List Term) (d e : Term) → length ts ≡ 2 → weight (form_of (get_or ts 0 d)) + weight (form_of (get_or ts 1 e)) + 1 < all_weight ts
+two_below [] d e h = absurd (omega arith)
+two_below (t ∷ []) d e h = absurd (omega arith)
+two_below (t ∷ u ∷ ts) d e h = omega arith

@@ -1,8 +1,9 @@
 // The bound variables.
-ghost use Rattle.std.specs.Prelude.{◌≡◌, option_map, map};
+ghost use Rattle.std.specs.Prelude.{◌≡◌, Ok, Err, MatchOption, option_map, map};
 ghost use Rattle.std.specs.List.{zip};
 ghost use Rattle.reql_datum.specs.Outcome.{Gives};
 ghost use Rattle.reql_datum.specs.View.{plain};
+ghost use Rattle.reql_rules.specs.Faults.{misplaced};
 ghost use Rattle.reql_value.specs.World.{variable_at, implicit_at, in_frame as in_frame_of, only as only_of};
 ghost use Rattle.reql_sense.specs.Bound.{bound};
 
@@ -23,16 +24,27 @@ pub enum Vars<'a> {
     },
 }
 
+/// The value of a variable where it lies, if one of that id is bound.
+pub fn lookup<'a>(id: u64, vars: &'a Vars<'a>) -> Option<&'a Datum>
+    ensures { MatchOption result (variable_at id (bound vars.now) ≡ Err misplaced)
+        (λ d. variable_at id (bound vars.now) ≡ Ok (plain d.now)) }
+{
+    match vars {
+        Vars::Empty => None,
+        Vars::Frame { ids, values, up } => match in_frame(id, ids, values) {
+            Some(d) => Some(d),
+            None => lookup(id, up),
+        },
+    }
+}
+
 /// The value of a variable. QueryLogic where none of that id is bound.
 pub fn find(alloc: Global, id: u64, vars: &Vars) -> Result<Datum, Fault>
     ensures { Gives plain result (variable_at id (bound vars.now)) }
 {
-    match vars {
-        Vars::Empty => Err(Fault::QueryLogic(misplaced(alloc)?)),
-        Vars::Frame { ids, values, up } => match in_frame(id, ids, values) {
-            Some(d) => Ok(d.copy()?),
-            None => find(alloc, id, up),
-        },
+    match lookup(id, vars) {
+        Some(d) => Ok(d.copy()?),
+        None => Err(Fault::QueryLogic(misplaced(alloc)?)),
     }
 }
 
@@ -52,16 +64,27 @@ fn in_frame<'a>(id: u64, ids: &[u64], values: &'a [Datum]) -> Option<&'a Datum>
     None
 }
 
+/// The value of the nearest function of one parameter where it lies, if there is one.
+pub fn lookup_implicit<'a>(vars: &'a Vars<'a>) -> Option<&'a Datum>
+    ensures { MatchOption result (implicit_at (bound vars.now) ≡ Err misplaced)
+        (λ d. implicit_at (bound vars.now) ≡ Ok (plain d.now)) }
+{
+    match vars {
+        Vars::Empty => None,
+        Vars::Frame { ids, values, up } => match only(ids, values) {
+            Some(d) => Some(d),
+            None => lookup_implicit(up),
+        },
+    }
+}
+
 /// The value of the nearest function of one parameter. QueryLogic where there is none.
 pub fn implicit(alloc: Global, vars: &Vars) -> Result<Datum, Fault>
     ensures { Gives plain result (implicit_at (bound vars.now)) }
 {
-    match vars {
-        Vars::Empty => Err(Fault::QueryLogic(misplaced(alloc)?)),
-        Vars::Frame { ids, values, up } => match only(ids, values) {
-            Some(d) => Ok(d.copy()?),
-            None => implicit(alloc, up),
-        },
+    match lookup_implicit(vars) {
+        Some(d) => Ok(d.copy()?),
+        None => Err(Fault::QueryLogic(misplaced(alloc)?)),
     }
 }
 

@@ -54,16 +54,16 @@ abbrev pub decreases-eval_taken : goal.decreases-eval_taken
 decreases-eval_taken g l = 16 * weight (form_of l.term.now) + 4
 
 abbrev pub decreases-eval_option : goal.decreases-eval_option
-decreases-eval_option g l = 16 * weight (form_of l.term.now) + 1
+decreases-eval_option g l = 16 * weight (form_of l.term.now) + 2
 
 abbrev pub decreases-eval_index : goal.decreases-eval_index
-decreases-eval_index g l = 16 * weight (form_of l.term.now) + 2
+decreases-eval_index g l = 16 * weight (form_of l.term.now) + 3
 
 abbrev pub decreases-eval_late : goal.decreases-eval_late
-decreases-eval_late g l = 16 * weight (form_of l.term.now) + 2
+decreases-eval_late g l = 16 * weight (form_of l.term.now) + 3
 
 abbrev pub decreases-eval_chosen : goal.decreases-eval_chosen
-decreases-eval_chosen g l = 16 * weight (form_of l.term.now) + 3
+decreases-eval_chosen g l = 16 * weight (form_of l.term.now) + 4
 
 abbrev pub decreases-call_term : goal.decreases-call_term
 decreases-call_term g l = 16 * weight (form_of l.term.now) + 2
@@ -83,8 +83,11 @@ decreases-unless_nothing g l = 16 * weight (form_of l.term.now) + 5
 abbrev pub decreases-test_term : goal.decreases-test_term
 decreases-test_term g l = 16 * weight (form_of l.term.now) + 1
 
+abbrev pub decreases-eval_simply : goal.decreases-eval_simply
+decreases-eval_simply g l = 16 * weight (form_of l.term.now) + 1
+
 abbrev pub decreases-call_body : goal.decreases-call_body
-decreases-call_body g l = 16 * weight (form_of l.body.now) + 1
+decreases-call_body g l = 16 * weight (form_of l.body.now) + 2
 
 abbrev pub decreases-eval_either : goal.decreases-eval_either
 decreases-eval_either g l = 16 * (weight (form_of l.first.now) + weight (form_of l.second.now) + 1) + 9
