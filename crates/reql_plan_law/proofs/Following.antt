@@ -67,6 +67,15 @@ ends_on : (s : Setting) (r : Request) (opened : Feeds) (arms : List Arm) (notes 
 ends_on s (ends o) opened arms notes items m e = subst (MayEnd opened) (ap outcome_in e) (may_sent s.noreply o opened m)
 ends_on s (asks q on) opened arms notes items m e = absurd (true≢false (ap is_move e))
 
+-- where no answer is wanted
+sent_none : (b : Bool) (o : Outcome) → b ≡ true → cond b unsent o ≡ unsent
+sent_none true o e = refl
+sent_none false o e = absurd (true≢false (sym e))
+
+none_sent : (s : Setting) (n : Next) (o : Outcome) → s.noreply ≡ true → sent s n ≡ answered o → o ≡ unsent
+none_sent s (answered x) o q e = sym (ap outcome_in e) ∙ sent_none s.noreply x q
+none_sent s (moves x) o q e = absurd (true≢false (ap is_move e))
+
 -- what is next is so of what is left
 next_left : (p : Plan) (s : Setting) (hs : List Heard) → sent s (next (after (request (course p s)) hs) []) ≡ plan_next p s hs
 next_left p s hs = ap (sent s) (sym (next_after (request (course p s)) hs))
@@ -82,4 +91,5 @@ plans_mind_each_step = record {
       (both.0, with_one p s hs h (with_ran n order.cmd h opened) both.1);
   finds = λ p s hs opened h m other. with_one p s hs h opened (finds_on (after (request (course p s)) hs) opened h m other);
   tells = λ p s hs opened arms notes items m e. ends_on s (after (request (course p s)) hs) opened arms notes items m (next_left p s hs ∙ e);
+  quiet = λ p s hs o q e. none_sent s (next (request (course p s)) hs) o q e;
 }

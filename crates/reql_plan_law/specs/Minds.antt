@@ -8,7 +8,7 @@ use Rattle.reql_law.specs.declared.command.Order.{Order}
 use Rattle.reql_plan_law.specs.declared.parts.Plan.{Plan}
 use Rattle.reql_plan_law.specs.declared.parts.Setting.{Setting}
 use Rattle.reql_plan_law.specs.Course.{course, plan_next}
-use Rattle.reql_plan_law.specs.Move.{Ask, run, Replied, Heard, ran, Arm, Item, Outcome, feed}
+use Rattle.reql_plan_law.specs.Move.{Ask, run, Replied, Heard, ran, Arm, Item, Outcome, unsent, feed}
 use Rattle.reql_plan_law.specs.Request.{Request, ends, asks, request, after, answered, moves}
 
 -- the feeds that are open, each a slot with a number
@@ -88,3 +88,5 @@ pub record PlansMindEachStep : Type 0 where
   pub finds : (p : Plan) (s : Setting) (hs : List Heard) (opened : Feeds) (h : Heard) → Comes p s hs opened → IsOther h → Comes p s (hs ++ h ∷ []) opened
   pub tells : (p : Plan) (s : Setting) (hs : List Heard) (opened : Feeds) (arms : List Arm) (notes : List ℕ) (items : List Item) →
       Comes p s hs opened → plan_next p s hs ≡ answered (feed arms notes items) → AreOpen opened arms
+  -- where no answer is wanted there is none
+  pub quiet : (p : Plan) (s : Setting) (hs : List Heard) (o : Outcome) → s.noreply ≡ true → plan_next p s hs ≡ answered o → o ≡ unsent

@@ -1,4 +1,5 @@
--- What a session needs of plans for its feeds: a plan takes from none, closes only what it opened, and opens no others.
+-- What a session needs of plans for its feeds: a plan takes from none, closes only what it opened, and tells of no others. Where no
+-- answer is wanted it gives none.
 use Rattle.std.specs.Prelude.{◌≡◌, ℕ, nat_eq, List, [], ◌∷◌, ◌++◌, Bool, true, false, ◌&&◌, ◌||◌}
 use Rattle.std.specs.List.{AllByRecursion}
 use Rattle.reql_law.specs.Replies.{Answered as Told}
@@ -6,7 +7,7 @@ use Rattle.reql_law.specs.declared.command.Cmd.{Cmd}
 use Rattle.reql_law.specs.declared.command.Cmd.TheVariants as cmds
 use Rattle.reql_law.specs.declared.command.Order.{Order}
 use Rattle.reql_law.specs.declared.reply.Saved.{Saved}
-use Rattle.reql_story.specs.Requests.{Arm, Sort, Change, Shown, Feed, RunSlot, Ends, Found, RanSlot}
+use Rattle.reql_story.specs.Requests.{Arm, Sort, Change, Shown, Answered, Unsent, Feed, RunSlot, Ends, Found, RanSlot}
 use Rattle.reql_story.specs.Tasks.{Talk, arms_after}
 
 abbrev pub has_arm : ℕ → ℕ → List Arm → Bool
@@ -40,3 +41,5 @@ module _ {PL : Type 0} (k : Talk PL) where
     pub ends : (plan : PL) (noreply : Bool) (count : ℕ) (found : List Found) (arms feed : List Arm) (notes : List ℕ) (items : List Shown) →
         on plan noreply count found arms → k.next plan noreply count found ≡ Ends (Feed feed notes items) →
         ((s f : ℕ) → has_arm s f feed ≡ true → has_arm s f arms ≡ true) × AllByRecursion (λ (x : Shown). IsAside x.sort) items
+    -- where no answer is wanted there is none
+    pub quiet : (plan : PL) (count : ℕ) (found : List Found) (a : Answered) → k.next plan true count found ≡ Ends a → a ≡ Unsent

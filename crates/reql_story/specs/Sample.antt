@@ -1,5 +1,5 @@
 -- Plans that are easy to see through: plan 0 follows the table in slot 0, any other plan is answered its number less one.
-use Rattle.std.specs.Prelude.{◌≡◌, ℕ, zero, suc, pos, List, [], ◌∷◌, ◌++◌, Bool, true, false, None, codes}
+use Rattle.std.specs.Prelude.{◌≡◌, ℕ, zero, suc, pos, List, [], ◌∷◌, ◌++◌, Bool, true, false, cond, None, codes}
 use Rattle.std.specs.List.{AllByRecursion}
 use Rattle.std.proofs.Common.{refl, sym, ap, subst, ◌∙◌, true≢false}
 use Rattle.reql_datum.specs.Plain.{Plain, number}
@@ -17,7 +17,7 @@ use Rattle.reql_law.specs.declared.command.FeedSpec.{FeedSpec}
 use Rattle.reql_law.specs.declared.command.Order.{Order}
 use Rattle.reql_law.specs.declared.reply.Saved.{Saved}
 use Rattle.reql_law.specs.declared.reply.Saved.TheVariants as saved
-use Rattle.reql_story.specs.Requests.{ServerInfo, Arm, Shown, Answered, One, Feed, Fault, Wanting, Move, LookNames, RunSlot, Ends, Found, SawNames, Clocked, SawSlot, RanSlot, ChangedNames, Rolled}
+use Rattle.reql_story.specs.Requests.{ServerInfo, Arm, Shown, Answered, Unsent, One, Feed, Fault, Wanting, Move, LookNames, RunSlot, Ends, Found, SawNames, Clocked, SawSlot, RanSlot, ChangedNames, Rolled}
 use Rattle.reql_story.specs.Tasks.{Talk, arms_said, arms_after}
 use Rattle.reql_story.specs.Minding.{has_arm, Minds, IsAside, IsOther, PlansMind}
 
@@ -52,12 +52,17 @@ next zero found = feed_next found
 next (suc n) [] = LookNames
 next (suc n) (x ∷ more) = Ends (One (number (pos n)))
 
+-- where no answer is wanted there is none
+abbrev pub hushed : Bool → Move → Move
+hushed noreply (Ends a) = Ends (cond noreply Unsent a)
+hushed noreply other = other
+
 abbrev pub sample : Talk ℕ
 sample = record {
   key = [];
   limits = usual_limits;
   asked = λ body. ServerInfo;
-  next = λ plan noreply count found. next plan found;
+  next = λ plan noreply count found. hushed noreply (next plan found);
   batch = λ plan. 2;
 }
 
@@ -102,6 +107,13 @@ AreAside items = AllByRecursion (λ (x : Shown). IsAside x.sort) items
 -- what a course owes where a plan runs a command
 abbrev Owes : ℕ → Bool → ℕ → List Found → List Arm → ℕ → Order → Told → Saved → Type 0
 Owes plan noreply count found arms slot order reply kept = Minds arms slot order.cmd × comes_by plan noreply count (found ++ RanSlot slot reply kept ∷ []) (arms_after slot order.cmd reply.said arms)
+
+abbrev is_end : Move → Bool
+is_end (Ends a) = true
+is_end other = false
+
+no_end : {A : Type 0} (m : Move) (a : Answered) → is_end m ≡ false → m ≡ Ends a → A
+no_end m a h e = absurd (true≢false (sym (ap is_end e) ∙ h))
 
 no_run : {A : Type 0} (m : Move) (slot : ℕ) (order : Order) → is_run m ≡ false → m ≡ RunSlot slot order → A
 no_run m slot order h e = absurd (true≢false (sym (ap is_run e) ∙ h))
@@ -169,10 +181,29 @@ ends zero noreply count (x ∷ Rolled b ∷ more) arms feed notes items o e = by
 ends (suc n) noreply count [] arms feed notes items o e = by_move LookNames arms feed notes items e (no_arms arms) tt
 ends (suc n) noreply count (x ∷ more) arms feed notes items o e = by_move (Ends (One (number (pos n)))) arms feed notes items e (no_arms arms) tt
 
+-- what was hushed is what it was, but for its answer
+run_back : (noreply : Bool) (m : Move) (slot : ℕ) (order : Order) → hushed noreply m ≡ RunSlot slot order → m ≡ RunSlot slot order
+run_back noreply (Ends a) slot order e = no_run (Ends (cond noreply Unsent a)) slot order refl e
+run_back noreply other slot order e = e
+
+abbrev is_feed : Answered → Bool
+is_feed (Feed arms notes items) = true
+is_feed other = false
+
+feed_back : (noreply : Bool) (m : Move) (feed : List Arm) (notes : List ℕ) (items : List Shown) → hushed noreply m ≡ Ends (Feed feed notes items) → m ≡ Ends (Feed feed notes items)
+feed_back true (Ends a) feed notes items e = absurd (true≢false (sym (ap (λ z. is_feed (answered_in z)) e)))
+feed_back false (Ends a) feed notes items e = e
+feed_back noreply other feed notes items e = e
+
+quiet : (m : Move) (a : Answered) → hushed true m ≡ Ends a → a ≡ Unsent
+quiet (Ends x) a e = sym (ap answered_in e)
+quiet other a e = no_end other a refl e
+
 pub sample_minds : PlansMind sample comes_by
 sample_minds = record {
   begins = λ plan noreply count. refl;
-  runs = λ plan noreply count found arms slot order reply kept o e. runs plan noreply count found arms slot order reply kept o e;
+  runs = λ plan noreply count found arms slot order reply kept o e. runs plan noreply count found arms slot order reply kept o (run_back noreply (next plan found) slot order e);
   finds = λ plan noreply count found arms x o h. finds plan noreply count found arms x o h;
-  ends = λ plan noreply count found arms feed notes items o e. ends plan noreply count found arms feed notes items o e;
+  ends = λ plan noreply count found arms feed notes items o e. ends plan noreply count found arms feed notes items o (feed_back noreply (next plan found) feed notes items e);
+  quiet = λ plan count found a e. quiet (next plan found) a e;
 }

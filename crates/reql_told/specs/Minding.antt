@@ -15,7 +15,7 @@ use Rattle.reql_plan_law.specs.Minds.{Feeds, is_feed, has_feed, without_feed, wi
 use Rattle.reql_plan_law.specs.Move as plans
 use Rattle.reql_plan_law.specs.Request as requests
 use Rattle.reql_plan_law.proofs.Following.{plans_mind_each_step}
-use Rattle.reql_story.specs.Requests.{Arm, Opening, State, Shown, Answered, Feed, Wanting, Move, RunSlot, Ends, Found, SawNames, Clocked, SawSlot, RanSlot, ChangedNames, Rolled}
+use Rattle.reql_story.specs.Requests.{Arm, Opening, State, Shown, Answered, Unsent, Feed, Wanting, Move, RunSlot, Ends, Found, SawNames, Clocked, SawSlot, RanSlot, ChangedNames, Rolled}
 use Rattle.reql_story.specs.Tasks.{arms_said, arms_after, others}
 use Rattle.reql_story.specs.Minding.{has_arm, Minds, IsAside, IsOther, PlansMind}
 use Rattle.reql_told.specs.Told.{heard_of, arm_of, shown_of, answered_of, asked_of, move_of, setting_of, moves_of, talk, feeds_of, comes_by}
@@ -182,6 +182,26 @@ next_ends : (m : requests.Next) (arms : List Arm) → ((feed : List plans.Arm) (
 next_ends (requests.answered o) arms are = ends_well o arms (λ feed notes items e. are feed notes items (ap requests.answered e))
 next_ends (requests.moves q) arms are = asked_ends q arms
 
+-- where each end is without an answer, so is it as it is told
+abbrev is_end : Move → Bool
+is_end (Ends a) = true
+is_end m = false
+
+not_end : {A : Type 0} (m : Move) (a : Answered) → is_end m ≡ false → m ≡ Ends a → A
+not_end m a h e = absurd (true≢false (sym (ap is_end e) ∙ h))
+
+asked_quiet : (q : plans.Ask) (a : Answered) → asked_of q ≡ Ends a → a ≡ Unsent
+asked_quiet plans.look_names a e = not_end (asked_of plans.look_names) a refl e
+asked_quiet plans.tell a e = not_end (asked_of plans.tell) a refl e
+asked_quiet (plans.look k) a e = not_end (asked_of (plans.look k)) a refl e
+asked_quiet (plans.run k o) a e = not_end (asked_of (plans.run k o)) a refl e
+asked_quiet (plans.change_names c) a e = not_end (asked_of (plans.change_names c)) a refl e
+asked_quiet plans.roll a e = not_end (asked_of plans.roll) a refl e
+
+next_quiet : (m : requests.Next) (a : Answered) → ((o : plans.Outcome) → m ≡ requests.answered o → o ≡ plans.unsent) → move_of m ≡ Ends a → a ≡ Unsent
+next_quiet (requests.answered o) a none e = sym (ap answered_in e) ∙ ap answered_of (none o refl)
+next_quiet (requests.moves q) a none e = asked_quiet q a e
+
 -- ---- what is found is heard
 other_heard : (x : Found) → IsOther x → IsOtherHeard (heard_of x)
 other_heard (SawNames place ns) o = tt
@@ -210,4 +230,6 @@ plans_are_told key limits = record {
       by_move (moves_of limits plan noreply count found) arms feed notes items e
       (next_ends (plan_next plan (setting_of limits noreply count) (map heard_of found)) arms
       (λ fs ns is h. plans_mind_each_step.tells plan (setting_of limits noreply count) (map heard_of found) (feeds_of arms) fs ns is o h));
+  quiet = λ plan count found a e.
+      next_quiet (plan_next plan (setting_of limits true count) (map heard_of found)) a (λ o h. plans_mind_each_step.quiet plan (setting_of limits true count) (map heard_of found) o refl h) e;
 }
