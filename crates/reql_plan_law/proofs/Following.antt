@@ -4,8 +4,8 @@ use Rattle.reql_law.specs.declared.command.Order.{Order}
 use Rattle.reql_plan_law.specs.declared.parts.Plan.{Plan}
 use Rattle.reql_plan_law.specs.declared.parts.Setting.{Setting}
 use Rattle.reql_plan_law.specs.Course.{course, sent, plan_next}
-use Rattle.reql_plan_law.specs.Minds.{Feeds, with_ran, with_heard, MayRun, May, AreOpen, MayEnd, Minds, Comes, IsOther, PlansMindEachStep}
-use Rattle.reql_plan_law.specs.Move.{Ask, look_names, tell, look, run, change_names, roll, Heard, names, told, looked, ran, changed, rolled, Arm, Item, Outcome, unsent, feed}
+use Rattle.reql_plan_law.specs.Minds.{Feeds, with_ran, with_heard, MayRun, May, MayEnd, Minds, Comes, IsOther, PlansMindEachStep}
+use Rattle.reql_plan_law.specs.Move.{Ask, look_names, tell, look, run, change_names, roll, Heard, names, told, looked, ran, changed, rolled, Outcome, unsent, sequence, feed}
 use Rattle.reql_plan_law.specs.Request.{Request, ends, asks, request, Next, answered, moves, next, after}
 use Rattle.reql_plan_law.proofs.Minding.{plans_mind}
 
@@ -63,9 +63,9 @@ may_sent : (b : Bool) (o : Outcome) (opened : Feeds) → MayEnd opened o → May
 may_sent true o opened m = tt
 may_sent false o opened m = m
 
-ends_on : (s : Setting) (r : Request) (opened : Feeds) (arms : List Arm) (notes : List ℕ) (items : List Item) → Minds opened r → sent s (next r []) ≡ answered (feed arms notes items) → AreOpen opened arms
-ends_on s (ends o) opened arms notes items m e = subst (MayEnd opened) (ap outcome_in e) (may_sent s.noreply o opened m)
-ends_on s (asks q on) opened arms notes items m e = absurd (true≢false (ap is_move e))
+ends_on : (s : Setting) (r : Request) (opened : Feeds) (o : Outcome) → Minds opened r → sent s (next r []) ≡ answered o → MayEnd opened o
+ends_on s (ends x) opened o m e = subst (MayEnd opened) (ap outcome_in e) (may_sent s.noreply x opened m)
+ends_on s (asks q on) opened o m e = absurd (true≢false (ap is_move e))
 
 -- where no answer is wanted
 sent_none : (b : Bool) (o : Outcome) → b ≡ true → cond b unsent o ≡ unsent
@@ -83,6 +83,9 @@ next_left p s hs = ap (sent s) (sym (next_after (request (course p s)) hs))
 with_one : (p : Plan) (s : Setting) (hs : List Heard) (h : Heard) (opened : Feeds) → Minds opened (after (after (request (course p s)) hs) (h ∷ [])) → Comes p s (hs ++ h ∷ []) opened
 with_one p s hs h opened m = subst (Minds opened) (sym (after_one (request (course p s)) hs h)) m
 
+comes_to : (p : Plan) (s : Setting) (hs : List Heard) (opened : Feeds) (o : Outcome) → Comes p s hs opened → plan_next p s hs ≡ answered o → MayEnd opened o
+comes_to p s hs opened o m e = ends_on s (after (request (course p s)) hs) opened o m (next_left p s hs ∙ e)
+
 pub plans_mind_each_step : PlansMindEachStep
 plans_mind_each_step = record {
   begins = λ p s. plans_mind p s;
@@ -90,6 +93,8 @@ plans_mind_each_step = record {
       let both : MayRun opened n order.cmd × Minds (with_ran n order.cmd h opened) (after (after (request (course p s)) hs) (h ∷ [])) = runs_on s (after (request (course p s)) hs) opened n order h m (next_left p s hs ∙ e) in
       (both.0, with_one p s hs h (with_ran n order.cmd h opened) both.1);
   finds = λ p s hs opened h m other. with_one p s hs h opened (finds_on (after (request (course p s)) hs) opened h m other);
-  tells = λ p s hs opened arms notes items m e. ends_on s (after (request (course p s)) hs) opened arms notes items m (next_left p s hs ∙ e);
+  tells = λ p s hs opened arms notes items m e. (comes_to p s hs opened (feed arms notes items) m e).are;
+  tells_all = λ p s hs opened arms notes items m e. comes_to p s hs opened (feed arms notes items) m e;
+  bare = λ p s hs opened ds m e. comes_to p s hs opened (sequence ds) m e;
   quiet = λ p s hs o q e. none_sent s (next (request (course p s)) hs) o q e;
 }

@@ -1,4 +1,5 @@
 pub mod Worked
+pub mod Arms
 pub mod Minding
 pub mod Following
 pub mod Follows

@@ -1,5 +1,6 @@
--- That plans take nothing of a feed, close no feed but those that they opened and that are open still, and tell of no others.
-use Rattle.std.proofs.Common.{◌≡◌, ℕ, ℤ, zero, suc, List, [], ◌∷◌, ◌++◌, map, Option, Some, None, Bool, true, false, true≢false, ◌&&◌, ◌||◌, cond, Ok, Err, refl, sym, ap, ◌∙◌}
+-- That plans take nothing of a feed, close no feed but those that they opened and that are open still, tell of all these where they
+-- end with a feed and of no others, and open none where they end with a sequence.
+use Rattle.std.proofs.Common.{◌≡◌, ℕ, ℤ, zero, suc, ◌<◌, List, [], ◌∷◌, ◌++◌, map, length, Option, Some, None, Bool, true, false, true≢false, not, ◌&&◌, ◌||◌, cond, Ok, Err, refl, sym, ap, subst, ◌∙◌, arith}
 use Rattle.std.specs.Prelude.{nat_eq}
 use Rattle.std.proofs.lemmas.Bool.{eqb-true, eq-eqb}
 use Rattle.reql_datum.specs.Answer.{Answer, Reason}
@@ -44,7 +45,7 @@ use Rattle.reql_plan_law.specs.Commands.{cat_command, table_command, cmd_of}
 use Rattle.reql_plan_law.specs.Course.{Open, lost, names_heard, moment_by, moment_heard, seen_at, seen_heard, looks, said_by, kept_by, reply_heard, command, key_by, key_heard, keys, summary_said, run_write, write, wrote, round, rounds, each_of, for_each, shuts, changed_by, change_heard, change_catalogue, table_said, change_table, closing, is_among, arm_of, opened_by, opened_if, open_heard, subscribed, opens, changes, has_room, fits_in, shown_as, shown, any_command, by_task, carried, branched, held, read, timed, resolving, course}
 use Rattle.reql_plan_law.specs.Feeding.{Feeding, feeding}
 use Rattle.reql_plan_law.specs.Held.{Held, Read, nothing_read}
-use Rattle.reql_plan_law.specs.Minds.{Feeds, is_feed, has_feed, without_feed, with_opened, with_ran, MayRun, AreOpen, MayEnd, Minds, PlansMind}
+use Rattle.reql_plan_law.specs.Minds.{Feeds, is_feed, has_feed, without_feed, with_opened, with_ran, MayRun, AreOpen, feeds_in, are_apart, TellsAll, MayEnd, Minds, PlansMind}
 use Rattle.reql_plan_law.specs.Move.{Replied, Heard, names, told, looked, ran, changed, rolled, Outcome, unsent, sequence}
 use Rattle.reql_plan_law.specs.Reads.{has_now, leaks, now_rule, read_slots, with_element}
 use Rattle.reql_plan_law.specs.Request.{Request, ends, Moves, give, refuse, from}
@@ -52,63 +53,75 @@ use Rattle.reql_plan_law.specs.Settled.{there, meant_of, datum_of, sequence_of}
 use Rattle.reql_plan_law.specs.Summed.{added, nothing_done}
 use Rattle.reql_plan_law.specs.Texts.{undetermined, too_many_cursors}
 use Rattle.reql_plan_law.specs.Writes.{prepared, with_keys}
+use Rattle.reql_plan_law.proofs.Arms.{HasOne, feeding_some}
 
 -- moves after which a request minds what is its own, whatever it goes on with
 abbrev Keeps : {A : Type 0} → Moves A → Type 0
 Keeps {A} m = (opened : Feeds) (on : A → Request) → ((a : A) (more : Feeds) → Minds more (on a)) → Minds opened (m on)
 
+-- and that open and close nothing on the way
+abbrev Stays : {A : Type 0} → Moves A → Type 0
+Stays {A} m = (opened : Feeds) (on : A → Request) → ((a : A) → Minds opened (on a)) → Minds opened (m on)
+
+stays_from : {A : Type 0} (x : Answer A) → Stays (from x)
+stays_from (Ok a) opened on k = k a
+stays_from (Err e) opened on k = tt
+
+from_ok : {A : Type 0} (x : Answer A) (opened : Feeds) (on : A → Request) → ((a : A) → x ≡ Ok a → Minds opened (on a)) → Minds opened (from x on)
+from_ok (Ok a) opened on k = k a refl
+from_ok (Err e) opened on k = tt
+
 keeps_from : {A : Type 0} (x : Answer A) → Keeps (from x)
-keeps_from (Ok a) opened on k = k a opened
-keeps_from (Err e) opened on k = tt
+keeps_from x opened on k = stays_from x opened on (λ a. k a opened)
 
-keeps_cond : {A : Type 0} (b : Bool) (m n : Moves A) → Keeps m → Keeps n → Keeps (cond b m n)
-keeps_cond true m n km kn opened on k = km opened on k
-keeps_cond false m n km kn opened on k = kn opened on k
+stays_cond : {A : Type 0} (b : Bool) (m n : Moves A) → Stays m → Stays n → Stays (cond b m n)
+stays_cond true m n km kn opened on k = km opened on k
+stays_cond false m n km kn opened on k = kn opened on k
 
--- and the same of moves that end in an outcome, of which the feeds that it tells are open
+-- moves that end in an outcome, of which the feeds that it tells are open, where none is open before them
 abbrev Concludes : Moves Outcome → Type 0
-Concludes m = (opened : Feeds) (on : Outcome → Request) → ((o : Outcome) (more : Feeds) → MayEnd more o → Minds more (on o)) → Minds opened (m on)
+Concludes m = (on : Outcome → Request) → ((o : Outcome) (more : Feeds) → MayEnd more o → Minds more (on o)) → Minds [] (m on)
 
 ends_cond : (b : Bool) (m n : Moves Outcome) → Concludes m → Concludes n → Concludes (cond b m n)
-ends_cond true m n km kn opened on k = km opened on k
-ends_cond false m n km kn opened on k = kn opened on k
+ends_cond true m n km kn on k = km on k
+ends_cond false m n km kn on k = kn on k
 
 -- ---- what is heard
-keeps_names : (h : Heard) → Keeps (names_heard h)
-keeps_names (names ns) opened on k = k ns opened
-keeps_names (told n) opened on k = tt
-keeps_names (looked at) opened on k = tt
-keeps_names (ran r q) opened on k = tt
-keeps_names (changed r) opened on k = tt
-keeps_names (rolled bs) opened on k = tt
+stays_names : (h : Heard) → Stays (names_heard h)
+stays_names (names ns) opened on k = k ns
+stays_names (told n) opened on k = tt
+stays_names (looked at) opened on k = tt
+stays_names (ran r q) opened on k = tt
+stays_names (changed r) opened on k = tt
+stays_names (rolled bs) opened on k = tt
 
-keeps_moment_by : (n : Option ℤ) → Keeps (moment_by n)
-keeps_moment_by None opened on k = tt
-keeps_moment_by (Some n) opened on k = keeps_cond (is_in n) (give n) (refuse (number_fault OverRange)) (λ o q j. j n o) (λ o q j. tt) opened on k
+stays_moment_by : (n : Option ℤ) → Stays (moment_by n)
+stays_moment_by None opened on k = tt
+stays_moment_by (Some n) opened on k = stays_cond (is_in n) (give n) (refuse (number_fault OverRange)) (λ o q j. j n) (λ o q j. tt) opened on k
 
-keeps_moment : (h : Heard) → Keeps (moment_heard h)
-keeps_moment (names ns) opened on k = tt
-keeps_moment (told n) opened on k = keeps_moment_by n opened on k
-keeps_moment (looked at) opened on k = tt
-keeps_moment (ran r q) opened on k = tt
-keeps_moment (changed r) opened on k = tt
-keeps_moment (rolled bs) opened on k = tt
+stays_moment : (h : Heard) → Stays (moment_heard h)
+stays_moment (names ns) opened on k = tt
+stays_moment (told n) opened on k = stays_moment_by n opened on k
+stays_moment (looked at) opened on k = tt
+stays_moment (ran r q) opened on k = tt
+stays_moment (changed r) opened on k = tt
+stays_moment (rolled bs) opened on k = tt
 
-keeps_seen_at : (ns : Named) (r : Read) (n : ℕ) (at : Seen) (o : Option (List Document × Indexes)) → Keeps (seen_at ns r n at o)
-keeps_seen_at ns r n at None opened on k = tt
-keeps_seen_at ns r n at (Some found) opened on k = k _ opened
+stays_seen_at : (ns : Named) (r : Read) (n : ℕ) (at : Seen) (o : Option (List Document × Indexes)) → Stays (seen_at ns r n at o)
+stays_seen_at ns r n at None opened on k = tt
+stays_seen_at ns r n at (Some found) opened on k = k _
 
-keeps_seen : (ns : Named) (r : Read) (n : ℕ) (h : Heard) → Keeps (seen_heard ns r n h)
-keeps_seen ns r n (names ns') opened on k = tt
-keeps_seen ns r n (told m) opened on k = tt
-keeps_seen ns r n (looked at) opened on k = keeps_seen_at ns r n at at.view opened on k
-keeps_seen ns r n (ran q v) opened on k = tt
-keeps_seen ns r n (changed q) opened on k = tt
-keeps_seen ns r n (rolled bs) opened on k = tt
+stays_seen : (ns : Named) (r : Read) (n : ℕ) (h : Heard) → Stays (seen_heard ns r n h)
+stays_seen ns r n (names ns') opened on k = tt
+stays_seen ns r n (told m) opened on k = tt
+stays_seen ns r n (looked at) opened on k = stays_seen_at ns r n at at.view opened on k
+stays_seen ns r n (ran q v) opened on k = tt
+stays_seen ns r n (changed q) opened on k = tt
+stays_seen ns r n (rolled bs) opened on k = tt
 
-keeps_looks : (ns : Named) (r : Read) (slots : List ℕ) → Keeps (looks ns r slots)
-keeps_looks ns r [] opened on k = k r opened
-keeps_looks ns r (n ∷ rest) opened on k = (tt, λ h. keeps_seen ns r n h opened (λ s. looks ns s rest on) (λ s more. keeps_looks ns s rest more on k))
+stays_looks : (ns : Named) (r : Read) (slots : List ℕ) → Stays (looks ns r slots)
+stays_looks ns r [] opened on k = k r
+stays_looks ns r (n ∷ rest) opened on k = (tt, λ h. stays_seen ns r n h opened (λ s. looks ns s rest on) (λ s. stays_looks ns s rest opened on k))
 
 -- ---- commands
 keeps_said : (ns : Named) (n : ℕ) (s : Replied) → Keeps (said_by ns n s)
@@ -181,7 +194,7 @@ keeps_write : (e : Held) (f : Form) → Keeps (write e f)
 keeps_write e f opened on k = keeps_from (prepared e f) opened (λ p. run_write e p [] p.rolls on) (λ p more. keeps_run_write e p [] p.rolls more on k)
 
 keeps_wrote : (e : Held) (f : Form) → Concludes (wrote e f)
-keeps_wrote e f opened on k = keeps_write e f opened _ (λ s more. k _ more tt)
+keeps_wrote e f on k = keeps_write e f [] _ (λ s more. k _ more tt)
 
 keeps_round : (e : Held) (id : ℕ) (d : Plain) (total : Summary) (ws : List Form) → Keeps (round e id d total ws)
 keeps_round e id d total [] opened on k = k total opened
@@ -204,7 +217,7 @@ keeps_each (slot n) opened on k = tt
 keeps_each (operation o fs ms) opened on k = tt
 
 keeps_for_each : (e : Held) (fs : Forms) → Concludes (for_each e fs)
-keeps_for_each e fs opened on k = keeps_from (there (first fs)) opened _
+keeps_for_each e fs on k = keeps_from (there (first fs)) [] _
     (λ f m1. keeps_from (sequence_of e.world f) m1 _
     (λ ds m2. keeps_from (there (second fs)) m2 _
     (λ g m3. keeps_each g m3 _
@@ -216,26 +229,26 @@ keeps_shuts e [] opened on k = k tt opened
 keeps_shuts e (n ∷ ns) opened on k = keeps_command e n cmds.Shut (λ o. tt) opened (λ s. shuts e ns on) (λ s more. keeps_shuts e ns more on k)
 
 keeps_changed : (e : Held) (c : CatCmd) (s : CatSaid) → Concludes (changed_by e c s)
-keeps_changed e c cat_said.Made opened on k = k _ opened tt
-keeps_changed e c (cat_said.Dropped slots) opened on k = keeps_shuts e slots opened _ (λ u more. k _ more tt)
-keeps_changed e c cat_said.DbExists opened on k = tt
-keeps_changed e c cat_said.DbMissing opened on k = tt
-keeps_changed e c cat_said.TableExists opened on k = tt
-keeps_changed e c cat_said.TableMissing opened on k = tt
-keeps_changed e c (cat_said.SlotsFull count) opened on k = tt
-keeps_changed e c cat_said.BadName opened on k = tt
-keeps_changed e c (cat_said.HistoryFull count) opened on k = tt
+keeps_changed e c cat_said.Made on k = k _ [] tt
+keeps_changed e c (cat_said.Dropped slots) on k = keeps_shuts e slots [] _ (λ u more. k _ more tt)
+keeps_changed e c cat_said.DbExists on k = tt
+keeps_changed e c cat_said.DbMissing on k = tt
+keeps_changed e c cat_said.TableExists on k = tt
+keeps_changed e c cat_said.TableMissing on k = tt
+keeps_changed e c (cat_said.SlotsFull count) on k = tt
+keeps_changed e c cat_said.BadName on k = tt
+keeps_changed e c (cat_said.HistoryFull count) on k = tt
 
 keeps_change : (e : Held) (c : CatCmd) (h : Heard) → Concludes (change_heard e c h)
-keeps_change e c (names ns) opened on k = tt
-keeps_change e c (told m) opened on k = tt
-keeps_change e c (looked at) opened on k = tt
-keeps_change e c (ran r q) opened on k = tt
-keeps_change e c (changed r) opened on k = keeps_changed e c r.said opened on k
-keeps_change e c (rolled bs) opened on k = tt
+keeps_change e c (names ns) on k = tt
+keeps_change e c (told m) on k = tt
+keeps_change e c (looked at) on k = tt
+keeps_change e c (ran r q) on k = tt
+keeps_change e c (changed r) on k = keeps_changed e c r.said on k
+keeps_change e c (rolled bs) on k = tt
 
 keeps_catalogue : (e : Held) (o : Op) (fs : Forms) (ms : NamedForms) → Concludes (change_catalogue e o fs ms)
-keeps_catalogue e o fs ms opened on k = keeps_from (cat_command e o fs ms) opened _ (λ c more. (tt, λ h. keeps_change e c h more on k))
+keeps_catalogue e o fs ms on k = stays_from (cat_command e o fs ms) [] _ (λ c. (tt, λ h. keeps_change e c h on k))
 
 may_table : (opened : Feeds) (n : ℕ) (c : TableCmd) → MayRun opened n (cmd_of c)
 may_table opened n (tables.IndexCreate d) = tt
@@ -243,7 +256,7 @@ may_table opened n (tables.IndexDrop name) = tt
 may_table opened n (tables.IndexRename old new overwrite) = tt
 may_table opened n tables.Sync = tt
 
-keeps_table_said : (c : Commanded) (s : Replied) → Concludes (table_said c s)
+keeps_table_said : (c : Commanded) (s : Replied) (opened : Feeds) (on : Outcome → Request) → ((o : Outcome) (more : Feeds) → MayEnd more o → Minds more (on o)) → Minds opened (table_said c s on)
 keeps_table_said c (said.Done x) opened on k = tt
 keeps_table_said c (said.HistoryFull count) opened on k = tt
 keeps_table_said c said.Changed opened on k = k _ opened tt
@@ -258,8 +271,8 @@ keeps_table_said c said.Closed opened on k = tt
 keeps_table_said c said.Gone opened on k = tt
 
 keeps_table : (e : Held) (o : Op) (fs : Forms) (ms : NamedForms) → Concludes (change_table e o fs ms)
-keeps_table e o fs ms opened on k = keeps_from (table_command e o fs ms) opened _
-    (λ c more. keeps_command e c.slot (cmd_of c.cmd) (λ all. may_table all c.slot c.cmd) more (λ s. table_said c s on) (λ s last. keeps_table_said c s last on k))
+keeps_table e o fs ms on k = stays_from (table_command e o fs ms) [] _
+    (λ c. keeps_command e c.slot (cmd_of c.cmd) (λ all. may_table all c.slot c.cmd) [] (λ s. table_said c s on) (λ s last. keeps_table_said c s last on k))
 
 -- ---- lists of feeds
 or_left : (a b : Bool) → a ≡ true → (a || b) ≡ true
@@ -318,7 +331,17 @@ stays n number m other (f ∷ fs) apart h = by_first (is_feed n number f) refl (
     by_first true e later = later (rest (is_feed m other f) (ap (is_feed m other) (is_this n number f e) ∙ apart) h)
     by_first false e later = kept (is_feed m other f) (has_feed m other fs) (has_feed m other (without_feed n number fs)) later h
 
--- ---- feeds: all that were opened so far are open, and each is another
+-- ---- feeds: just those that were opened so far are open, and each is another
+abbrev held_of : List Open → Feeds
+held_of os = map (λ (o : Open). (o.slot, o.feed)) os
+
+held_with : (opened : Feeds) (os : List Open) (k : Open) → opened ≡ held_of os → opened ++ (k.slot, k.feed) ∷ [] ≡ held_of (os ++ k ∷ [])
+held_with opened os k same = ap (λ z. z ++ (k.slot, k.feed) ∷ []) same ∙ by_each os
+  where
+    by_each : (os : List Open) → held_of os ++ (k.slot, k.feed) ∷ [] ≡ held_of (os ++ k ∷ [])
+    by_each [] = refl
+    by_each (o ∷ os) = ap (λ z. (o.slot, o.feed) ∷ z) (by_each os)
+
 abbrev AllOpen : Feeds → List Open → Type 0
 AllOpen opened [] = Unit {0}
 AllOpen opened (o ∷ os) = (has_feed o.slot o.feed opened ≡ true) × AllOpen opened os
@@ -369,6 +392,48 @@ all_arms : (e : Held) (os : List Open) (opened : Feeds) → AllOpen opened os �
 all_arms e [] opened all = tt
 all_arms e (o ∷ os) opened all = (all.0, all_arms e os opened all.1)
 
+-- what is told where a feed is told
+arms_held : (e : Held) (os : List Open) → feeds_in (map (arm_of e) os) ≡ held_of os
+arms_held e [] = refl
+arms_held e (o ∷ os) = ap (λ z. (o.slot, o.feed) ∷ z) (arms_held e os)
+
+other_way : (n number : ℕ) (f : ℕ × ℕ) → is_feed f.0 f.1 (n, number) ≡ false → is_feed n number f ≡ false
+other_way n number f h = by_it (is_feed n number f) refl
+  where
+    by_it : (b : Bool) → is_feed n number f ≡ b → b ≡ false
+    by_it true e =
+        let itself : is_feed n number (n, number) ≡ false = subst (λ (z : ℕ × ℕ). is_feed z.0 z.1 (n, number) ≡ false) (is_this n number f e) h in
+        absurd (true≢false (sym (is_itself n number) ∙ itself))
+    by_it false e = refl
+
+neither : (a b : Bool) → a ≡ false → b ≡ false → (a || b) ≡ false
+neither true b h e = h
+neither false b h e = e
+
+none_held : (o : Open) (os : List Open) → OthersThan o os → has_feed o.slot o.feed (held_of os) ≡ false
+none_held o [] others = refl
+none_held o (x ∷ os) others =
+    neither (is_feed o.slot o.feed (x.slot, x.feed)) (has_feed o.slot o.feed (held_of os)) (other_way o.slot o.feed (x.slot, x.feed) others.0) (none_held o os others.1)
+
+apart_held : (os : List Open) → Apart os → are_apart (held_of os) ≡ true
+apart_held [] apart = refl
+apart_held (o ∷ os) apart = both (not (has_feed o.slot o.feed (held_of os))) (are_apart (held_of os)) (ap not (none_held o os apart.0)) (apart_held os apart.1)
+
+more_than_none : (n : ℕ) → 0 < suc n
+more_than_none n = omega arith
+
+arms_some : (e : Held) (os : List Open) → HasOne os → 0 < length (map (arm_of e) os)
+arms_some e [] some = absurd some
+arms_some e (o ∷ os) some = more_than_none (length (map (arm_of e) os))
+
+tells_all : (e : Held) (os : List Open) (opened : Feeds) → opened ≡ held_of os → AllOpen opened os → Apart os → HasOne os → TellsAll opened (map (arm_of e) os)
+tells_all e os opened same all apart some = record {
+  are = all_arms e os opened all;
+  all = arms_held e os ∙ sym same;
+  apart = ap are_apart same ∙ apart_held os apart;
+  some = arms_some e os some;
+}
+
 minds_closing : {A : Type 0} (e : Held) (why : Reason) (os : List Open) (opened : Feeds) (on : A → Request) → AllOpen opened os → Apart os → Minds opened (closing e why os on)
 minds_closing e why [] opened on all apart = tt
 minds_closing e why (o ∷ os) opened on all apart =
@@ -376,113 +441,141 @@ minds_closing e why (o ∷ os) opened on all apart =
 
 -- the moves after an opening go on with one more that is open
 abbrev Goes : List Open → (Open → Request) → Type 0
-Goes before on = (k : Open) (more : Feeds) → AllOpen more (before ++ k ∷ []) → Apart (before ++ k ∷ []) → Minds more (on k)
+Goes before on = (k : Open) (more : Feeds) → more ≡ held_of (before ++ k ∷ []) → AllOpen more (before ++ k ∷ []) → Apart (before ++ k ∷ []) → Minds more (on k)
 
-minds_opened : (b : Bool) (k : Open) (before : List Open) (more : Feeds) (on : Open → Request) → is_among k.slot k.feed before ≡ b → AllOpen more (before ++ k ∷ []) → Apart before → Goes before on →
+-- what is open there: just what was opened before, each another
+pub record Opened (opened : Feeds) (before : List Open) : Type 0 where
+  pub same : opened ≡ held_of before
+  pub all : AllOpen opened before
+  pub apart : Apart before
+
+minds_opened : (b : Bool) (k : Open) (before : List Open) (more : Feeds) (on : Open → Request) → is_among k.slot k.feed before ≡ b → more ≡ held_of (before ++ k ∷ []) → AllOpen more (before ++ k ∷ []) → Apart before → Goes before on →
     Minds more ((cond b lost (give k)) on)
-minds_opened true k before more on e all apart go = tt
-minds_opened false k before more on e all apart go = go k more all (apart_with before k apart e)
+minds_opened true k before more on e same all apart go = tt
+minds_opened false k before more on e same all apart go = go k more same all (apart_with before k apart e)
 
-minds_said : (e : Held) (before : List Open) (o : Opening) (stamp : ℕ) (s : Replied) (opened : Feeds) (on : Open → Request) → AllOpen opened before → Apart before → Goes before on →
+minds_said : (e : Held) (before : List Open) (o : Opening) (stamp : ℕ) (s : Replied) (opened : Feeds) (on : Open → Request) → Opened opened before → Goes before on →
     Minds (with_opened o.slot s opened) (opened_by e before o stamp s on)
-minds_said e before o stamp (said.Done x) opened on all apart go = tt
-minds_said e before o stamp (said.HistoryFull count) opened on all apart go = minds_closing e _ before opened on all apart
-minds_said e before o stamp said.Changed opened on all apart go = tt
-minds_said e before o stamp said.IndexExists opened on all apart go = tt
-minds_said e before o stamp said.IndexMissing opened on all apart go = minds_closing e _ before opened on all apart
-minds_said e before o stamp (said.Opened f items) opened on all apart go =
+minds_said e before o stamp (said.Done x) opened on is go = tt
+minds_said e before o stamp (said.HistoryFull count) opened on is go = minds_closing e _ before opened on is.all is.apart
+minds_said e before o stamp said.Changed opened on is go = tt
+minds_said e before o stamp said.IndexExists opened on is go = tt
+minds_said e before o stamp said.IndexMissing opened on is go = minds_closing e _ before opened on is.all is.apart
+minds_said e before o stamp (said.Opened f items) opened on is go =
     let k : Open = record { slot = o.slot; feed = f; stamp = stamp; opening = items } in
     let more : Feeds = opened ++ (o.slot, f) ∷ [] in
-    minds_opened (is_among o.slot f before) k before more on refl (all_with more before k (all_more (o.slot, f) opened before all) (has_last o.slot f opened)) apart go
-minds_said e before o stamp (said.FeedsFull count) opened on all apart go = minds_closing e _ before opened on all apart
-minds_said e before o stamp (said.Batch skipped last items) opened on all apart go = tt
-minds_said e before o stamp said.Nothing opened on all apart go = tt
-minds_said e before o stamp (said.FeedUnknown f) opened on all apart go = tt
-minds_said e before o stamp said.Closed opened on all apart go = tt
-minds_said e before o stamp said.Gone opened on all apart go = minds_closing e _ before opened on all apart
+    minds_opened (is_among o.slot f before) k before more on refl (held_with opened before k is.same)
+    (all_with more before k (all_more (o.slot, f) opened before is.all) (has_last o.slot f opened)) is.apart go
+minds_said e before o stamp (said.FeedsFull count) opened on is go = minds_closing e _ before opened on is.all is.apart
+minds_said e before o stamp (said.Batch skipped last items) opened on is go = tt
+minds_said e before o stamp said.Nothing opened on is go = tt
+minds_said e before o stamp (said.FeedUnknown f) opened on is go = tt
+minds_said e before o stamp said.Closed opened on is go = tt
+minds_said e before o stamp said.Gone opened on is go = minds_closing e _ before opened on is.all is.apart
 
-minds_kept : (e : Held) (before : List Open) (o : Opening) (r : Reply) (v : Saved) (opened : Feeds) (on : Open → Request) → AllOpen opened before → Apart before → Goes before on →
+minds_kept : (e : Held) (before : List Open) (o : Opening) (r : Reply) (v : Saved) (opened : Feeds) (on : Open → Request) → Opened opened before → Goes before on →
     Minds (with_opened o.slot r.said opened) (opened_if e before o r v on)
-minds_kept e before o r saved.Yes opened on all apart go = minds_said e before o r.stamp r.said opened on all apart go
-minds_kept e before o r saved.Failed opened on all apart go = tt
-minds_kept e before o r saved.Memory opened on all apart go = tt
+minds_kept e before o r saved.Yes opened on is go = minds_said e before o r.stamp r.said opened on is go
+minds_kept e before o r saved.Failed opened on is go = tt
+minds_kept e before o r saved.Memory opened on is go = tt
 
-minds_heard : (e : Held) (before : List Open) (o : Opening) (h : Heard) (opened : Feeds) (on : Open → Request) → AllOpen opened before → Apart before → Goes before on →
+minds_heard : (e : Held) (before : List Open) (o : Opening) (h : Heard) (opened : Feeds) (on : Open → Request) → Opened opened before → Goes before on →
     Minds (with_ran o.slot (cmds.Subscribe o.spec) h opened) (open_heard e before o h on)
-minds_heard e before o (names ns) opened on all apart go = tt
-minds_heard e before o (told m) opened on all apart go = tt
-minds_heard e before o (looked at) opened on all apart go = tt
-minds_heard e before o (ran r q) opened on all apart go = minds_kept e before o r q opened on all apart go
-minds_heard e before o (changed q) opened on all apart go = tt
-minds_heard e before o (rolled bs) opened on all apart go = tt
+minds_heard e before o (names ns) opened on is go = tt
+minds_heard e before o (told m) opened on is go = tt
+minds_heard e before o (looked at) opened on is go = tt
+minds_heard e before o (ran r q) opened on is go = minds_kept e before o r q opened on is go
+minds_heard e before o (changed q) opened on is go = tt
+minds_heard e before o (rolled bs) opened on is go = tt
 
-minds_subscribed : (e : Held) (before : List Open) (os : List Opening) (opened : Feeds) (on : List Open → Request) → AllOpen opened before → Apart before → ((a : List Open) (more : Feeds) → AllOpen more a → Minds more (on a)) →
+-- one is opened at least, where one was before or is to be
+abbrev Fills : List Open → List Opening → Type 0
+Fills before [] = HasOne before
+Fills before (o ∷ os) = Unit {0}
+
+one_more : (before : List Open) (k : Open) → HasOne (before ++ k ∷ [])
+one_more [] k = tt
+one_more (o ∷ before) k = tt
+
+fills_next : (before : List Open) (k : Open) (os : List Opening) → Fills (before ++ k ∷ []) os
+fills_next before k [] = one_more before k
+fills_next before k (o ∷ os) = tt
+
+fills_first : (os : List Opening) → HasOne os → Fills [] os
+fills_first [] some = absurd some
+fills_first (o ∷ os) some = tt
+
+minds_subscribed : (e : Held) (before : List Open) (os : List Opening) (opened : Feeds) (on : List Open → Request) → Opened opened before → Fills before os → ((a : List Open) (more : Feeds) → Opened more a → HasOne a → Minds more (on a)) →
     Minds opened (subscribed e before os on)
-minds_subscribed e before [] opened on all apart k = k before opened all
-minds_subscribed e before (o ∷ os) opened on all apart k = (
+minds_subscribed e before [] opened on is some k = k before opened is some
+minds_subscribed e before (o ∷ os) opened on is some k = (
   tt,
-  λ h. minds_heard e before o h opened (λ x. subscribed e (before ++ x ∷ []) os on) all apart
-      (λ x more opened other. minds_subscribed e (before ++ x ∷ []) os more on opened other k),
+  λ h. minds_heard e before o h opened (λ x. subscribed e (before ++ x ∷ []) os on) is
+      (λ x more same all apart. minds_subscribed e (before ++ x ∷ []) os more on (record { same = same; all = all; apart = apart }) (fills_next before x os) k),
 )
 
-keeps_opens : (e : Held) (f : Feeding) → Concludes (opens e f)
-keeps_opens e f opened on k = minds_subscribed e [] f.openings opened _ tt tt (λ os more all. k _ more (all_arms e os more all))
+none_opened : Opened [] []
+none_opened = record { same = refl; all = tt; apart = tt }
+
+keeps_opens : (e : Held) (f : Feeding) → HasOne f.openings → Concludes (opens e f)
+keeps_opens e f some on k = minds_subscribed e [] f.openings [] _ none_opened (fills_first f.openings some)
+    (λ os more is one. k _ more (tells_all e os more is.same is.all is.apart one))
 
 keeps_changes : (e : Held) (fs : Forms) (ms : NamedForms) → Concludes (changes e fs ms)
-keeps_changes e fs ms opened on k = keeps_from (feeding e fs ms) opened _
-    (λ f more. ends_cond e.setting.noreply (give unsent) (cond (has_room e.setting) (opens e f) (refuse too_many_cursors)) (λ o q j. j unsent o tt)
-    (ends_cond (has_room e.setting) (opens e f) (refuse too_many_cursors) (keeps_opens e f) (λ o q j. tt)) more on k)
+keeps_changes e fs ms on k = from_ok (feeding e fs ms) [] _
+    (λ f is. ends_cond e.setting.noreply (give unsent) (cond (has_room e.setting) (opens e f) (refuse too_many_cursors)) (λ q j. j unsent [] tt)
+    (ends_cond (has_room e.setting) (opens e f) (refuse too_many_cursors) (keeps_opens e f (feeding_some e fs ms f is)) (λ q j. tt)) on k)
 
 -- ---- values, and what stands at the root
 keeps_shown_as : (e : Held) (s : Shown) → Concludes (shown_as e s)
-keeps_shown_as e (values.atom d) opened on k = k _ opened tt
-keeps_shown_as e (values.groups gs) opened on k = k _ opened tt
-keeps_shown_as e (values.sequence ds) opened on k = ends_cond (fits_in e ds) (give (sequence ds)) (refuse too_many_cursors) (λ o q j. j (sequence ds) o tt) (λ o q j. tt) opened on k
+keeps_shown_as e (values.atom d) on k = k _ [] tt
+keeps_shown_as e (values.groups gs) on k = k _ [] tt
+keeps_shown_as e (values.sequence ds) on k = ends_cond (fits_in e ds) (give (sequence ds)) (refuse too_many_cursors) (λ q j. j (sequence ds) [] refl) (λ q j. tt) on k
 
 keeps_shown : (e : Held) (f : Form) → Concludes (shown e f)
-keeps_shown e f opened on k = keeps_from (meant_of e.world f) opened _ (λ m more. keeps_from (values.shown e.world m) more _ (λ s last. keeps_shown_as e s last on k))
+keeps_shown e f on k = stays_from (meant_of e.world f) [] _ (λ m. stays_from (values.shown e.world m) [] _ (λ s. keeps_shown_as e s on k))
 
 keeps_task : (e : Held) (t : Task) (o : Op) (fs : Forms) (ms : NamedForms) (arms : Moves Outcome) → Concludes arms → Concludes (by_task e t o fs ms arms)
-keeps_task e task.Value o fs ms arms ka opened on k = keeps_shown e (operation o fs ms) opened on k
-keeps_task e task.Branch o fs ms arms ka opened on k = ends_cond (any_command fs) arms (shown e (operation o fs ms)) ka (keeps_shown e (operation o fs ms)) opened on k
-keeps_task e task.ForEach o fs ms arms ka opened on k = keeps_for_each e fs opened on k
-keeps_task e task.Write o fs ms arms ka opened on k = keeps_wrote e (operation o fs ms) opened on k
-keeps_task e task.Catalogue o fs ms arms ka opened on k = keeps_catalogue e o fs ms opened on k
-keeps_task e task.Index o fs ms arms ka opened on k = keeps_table e o fs ms opened on k
-keeps_task e task.Sync o fs ms arms ka opened on k = keeps_table e o fs ms opened on k
-keeps_task e task.Feed o fs ms arms ka opened on k = keeps_changes e fs ms opened on k
+keeps_task e task.Value o fs ms arms ka on k = keeps_shown e (operation o fs ms) on k
+keeps_task e task.Branch o fs ms arms ka on k = ends_cond (any_command fs) arms (shown e (operation o fs ms)) ka (keeps_shown e (operation o fs ms)) on k
+keeps_task e task.ForEach o fs ms arms ka on k = keeps_for_each e fs on k
+keeps_task e task.Write o fs ms arms ka on k = keeps_wrote e (operation o fs ms) on k
+keeps_task e task.Catalogue o fs ms arms ka on k = keeps_catalogue e o fs ms on k
+keeps_task e task.Index o fs ms arms ka on k = keeps_table e o fs ms on k
+keeps_task e task.Sync o fs ms arms ka on k = keeps_table e o fs ms on k
+keeps_task e task.Feed o fs ms arms ka on k = keeps_changes e fs ms on k
 
 mutual
   keeps_carried : (e : Held) (f : Form) → Concludes (carried e f)
-  keeps_carried e (literal d) opened on k = keeps_shown e (literal d) opened on k
-  keeps_carried e (several fs) opened on k = keeps_shown e (several fs) opened on k
-  keeps_carried e (keyed ms) opened on k = keeps_shown e (keyed ms) opened on k
-  keeps_carried e (variable n) opened on k = keeps_shown e (variable n) opened on k
-  keeps_carried e implicit opened on k = keeps_shown e implicit opened on k
-  keeps_carried e (function ids f) opened on k = keeps_shown e (function ids f) opened on k
-  keeps_carried e (slot n) opened on k = keeps_shown e (slot n) opened on k
-  keeps_carried e (operation o fs ms) opened on k = keeps_task e (task_of o) o fs ms (branched e fs) (keeps_branched e fs) opened on k
+  keeps_carried e (literal d) on k = keeps_shown e (literal d) on k
+  keeps_carried e (several fs) on k = keeps_shown e (several fs) on k
+  keeps_carried e (keyed ms) on k = keeps_shown e (keyed ms) on k
+  keeps_carried e (variable n) on k = keeps_shown e (variable n) on k
+  keeps_carried e implicit on k = keeps_shown e implicit on k
+  keeps_carried e (function ids f) on k = keeps_shown e (function ids f) on k
+  keeps_carried e (slot n) on k = keeps_shown e (slot n) on k
+  keeps_carried e (operation o fs ms) on k = keeps_task e (task_of o) o fs ms (branched e fs) (keeps_branched e fs) on k
 
   keeps_branched : (e : Held) (fs : Forms) → Concludes (branched e fs)
-  keeps_branched e no_forms opened on k = tt
-  keeps_branched e (form f no_forms) opened on k = keeps_carried e f opened on k
-  keeps_branched e (form f (form g fs)) opened on k = keeps_from (datum_of e.world f) opened (λ d. cond (truth d) (carried e g) (branched e fs) on)
-      (λ d more. ends_cond (truth d) (carried e g) (branched e fs) (keeps_carried e g) (keeps_branched e fs) more on k)
+  keeps_branched e no_forms on k = tt
+  keeps_branched e (form f no_forms) on k = keeps_carried e f on k
+  keeps_branched e (form f (form g fs)) on k = stays_from (datum_of e.world f) [] (λ d. cond (truth d) (carried e g) (branched e fs) on)
+      (λ d. ends_cond (truth d) (carried e g) (branched e fs) (keeps_carried e g) (keeps_branched e fs) on k)
 
 -- ---- the whole
 keeps_read : (p : Plan) (s : Setting) (ns : Named) (f : Form) → Concludes (read p s ns f)
-keeps_read p s ns f opened on k = keeps_looks ns nothing_read (read_slots f) opened (λ r. carried (held p s ns r) f on) (λ r more. keeps_carried (held p s ns r) f more on k)
+keeps_read p s ns f on k = stays_looks ns nothing_read (read_slots f) [] (λ r. carried (held p s ns r) f on) (λ r. keeps_carried (held p s ns r) f on k)
 
 keeps_timed : (p : Plan) (s : Setting) (ns : Named) (f : Form) → Concludes (timed p s ns f)
-keeps_timed p s ns f opened on k = (tt, λ h. keeps_moment h opened _ (λ n m1. keeps_from (rewritten (now_rule n) f) m1 _ (λ g m2. keeps_read p s ns g m2 on k)))
+keeps_timed p s ns f on k = (tt, λ h. stays_moment h [] _ (λ n. stays_from (rewritten (now_rule n) f) [] _ (λ g. keeps_read p s ns g on k)))
 
 keeps_resolving : (p : Plan) (s : Setting) (ns : Named) → Concludes (resolving p s ns)
-keeps_resolving p s ns opened on k = keeps_from (resolved ns p.db p.term) opened _
-    (λ f m1. keeps_cond (leaks false f) (refuse undetermined) (give f) (λ o q j. tt) (λ o q j. j f o) m1 _
-    (λ g m2. ends_cond (has_now g) (timed p s ns g) (read p s ns g) (keeps_timed p s ns g) (keeps_read p s ns g) m2 on k))
+keeps_resolving p s ns on k = stays_from (resolved ns p.db p.term) [] _
+    (λ f. stays_cond (leaks false f) (refuse undetermined) (give f) (λ o q j. tt) (λ o q j. j f) [] _
+    (λ g. ends_cond (has_now g) (timed p s ns g) (read p s ns g) (keeps_timed p s ns g) (keeps_read p s ns g) on k))
 
 keeps_course : (p : Plan) (s : Setting) → Concludes (course p s)
-keeps_course p s opened on k = (tt, λ h. keeps_names h opened (λ ns. resolving p s ns on) (λ ns more. keeps_resolving p s ns more on k))
+keeps_course p s on k = (tt, λ h. stays_names h [] (λ ns. resolving p s ns on) (λ ns. keeps_resolving p s ns on k))
 
 pub plans_mind : PlansMind
-plans_mind p s = keeps_course p s [] ends (λ o more may. may)
+plans_mind p s = keeps_course p s ends (λ o more may. may)

@@ -1,6 +1,7 @@
 -- That a plan minds what is its own: it takes nothing of a feed, closes no feed but those that it opened and that are open
--- still, and tells of no others.
-use Rattle.std.specs.Prelude.{◌≡◌, ℕ, nat_eq, List, [], ◌∷◌, ◌++◌, Bool, true, false, ◌&&◌, ◌||◌, cond}
+-- still, tells of all these where it ends with a feed and of no others, and opens none where it ends with a sequence.
+use Rattle.std.specs.Prelude.{◌≡◌, ℕ, ◌<◌, nat_eq, List, [], ◌∷◌, ◌++◌, map, length, Bool, true, false, not, ◌&&◌, ◌||◌, cond}
+use Rattle.reql_datum.specs.Plain.{Plain}
 use Rattle.reql_table_machine.specs.declared.command.Said.TheVariants as said
 use Rattle.reql_law.specs.declared.command.Cmd.{Cmd}
 use Rattle.reql_law.specs.declared.command.Cmd.TheVariants as cmds
@@ -8,7 +9,7 @@ use Rattle.reql_law.specs.declared.command.Order.{Order}
 use Rattle.reql_plan_law.specs.declared.parts.Plan.{Plan}
 use Rattle.reql_plan_law.specs.declared.parts.Setting.{Setting}
 use Rattle.reql_plan_law.specs.Course.{course, plan_next}
-use Rattle.reql_plan_law.specs.Move.{Ask, run, Replied, Heard, ran, Arm, Item, Outcome, unsent, feed}
+use Rattle.reql_plan_law.specs.Move.{Ask, run, Replied, Heard, ran, Arm, Item, Outcome, unsent, sequence, feed}
 use Rattle.reql_plan_law.specs.Request.{Request, ends, asks, request, after, answered, moves}
 
 -- the feeds that are open, each a slot with a number
@@ -58,8 +59,25 @@ abbrev pub AreOpen : Feeds → List Arm → Type 0
 AreOpen opened [] = Unit {0}
 AreOpen opened (a ∷ arms) = (has_feed a.slot a.feed opened ≡ true) × AreOpen opened arms
 
+abbrev pub feeds_in : List Arm → Feeds
+feeds_in arms = map (λ (a : Arm). (a.slot, a.feed)) arms
+
+-- each feed once
+abbrev pub are_apart : Feeds → Bool
+are_apart [] = true
+are_apart (f ∷ fs) = not (has_feed f.0 f.1 fs) && are_apart fs
+
+-- Where a feed is told, its arms are just the feeds that are open, in their order, each once, and there is one; a sequence
+-- is told while none is open.
+pub record TellsAll (opened : Feeds) (arms : List Arm) : Type 0 where
+  pub are : AreOpen opened arms
+  pub all : feeds_in arms ≡ opened
+  pub apart : are_apart opened ≡ true
+  pub some : 0 < length arms
+
 abbrev pub MayEnd : Feeds → Outcome → Type 0
-MayEnd opened (feed arms notes items) = AreOpen opened arms
+MayEnd opened (feed arms notes items) = TellsAll opened arms
+MayEnd opened (sequence ds) = opened ≡ []
 MayEnd opened o = Unit {0}
 
 abbrev pub Minds : Feeds → Request → Type 0
@@ -88,5 +106,11 @@ pub record PlansMindEachStep : Type 0 where
   pub finds : (p : Plan) (s : Setting) (hs : List Heard) (opened : Feeds) (h : Heard) → Comes p s hs opened → IsOther h → Comes p s (hs ++ h ∷ []) opened
   pub tells : (p : Plan) (s : Setting) (hs : List Heard) (opened : Feeds) (arms : List Arm) (notes : List ℕ) (items : List Item) →
       Comes p s hs opened → plan_next p s hs ≡ answered (feed arms notes items) → AreOpen opened arms
+  -- these arms are just the feeds that are open, each once, and there is one
+  pub tells_all : (p : Plan) (s : Setting) (hs : List Heard) (opened : Feeds) (arms : List Arm) (notes : List ℕ) (items : List Item) →
+      Comes p s hs opened → plan_next p s hs ≡ answered (feed arms notes items) → TellsAll opened arms
+  -- a sequence is told while none is open
+  pub bare : (p : Plan) (s : Setting) (hs : List Heard) (opened : Feeds) (ds : List Plain) →
+      Comes p s hs opened → plan_next p s hs ≡ answered (sequence ds) → opened ≡ []
   -- where no answer is wanted there is none
   pub quiet : (p : Plan) (s : Setting) (hs : List Heard) (o : Outcome) → s.noreply ≡ true → plan_next p s hs ≡ answered o → o ≡ unsent

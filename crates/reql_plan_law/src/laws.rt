@@ -2,13 +2,14 @@
 ghost use Rattle.reql_plan_law.specs.Follows.{FeedsAreRead, LimitsAreRead, PointsAreRead, RangesAreRead};
 ghost use Rattle.reql_plan_law.specs.Minds.{PlansMind, PlansMindEachStep};
 
-/// A plan takes nothing of a feed, closes no feed but those that it opened and that are open still, and
-/// tells of no others, whatever its moves are answered: what a session holds open is safe from a later request.
+/// A plan takes nothing of a feed and closes no feed but those that it opened and that are open still; where it ends with
+/// a feed, the arms are just those that are open, each once, and there is one; where it ends with a sequence none is open.
+/// So it is whatever its moves are answered: what a session holds open is safe from a later request.
 pub fn plans_mind()
     ensures { PlansMind }
 {}
 
-/// The same step by step, by what was heard so far, as a session follows a plan.
+/// The same step by step, by what was heard so far, as a session follows a plan; and where no answer is wanted there is none.
 #[tactic(auto, using(crate::proofs::Following::plans_mind_each_step))]
 pub fn plans_mind_each_step()
     ensures { PlansMindEachStep }

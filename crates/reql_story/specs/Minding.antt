@@ -1,13 +1,14 @@
--- What a session needs of plans for its feeds: a plan takes from none, closes only what it opened, and tells of no others. Where no
--- answer is wanted it gives none.
-use Rattle.std.specs.Prelude.{◌≡◌, ℕ, nat_eq, List, [], ◌∷◌, ◌++◌, Bool, true, false, ◌&&◌, ◌||◌}
+-- What a session needs of plans for its feeds: a plan takes from none, closes only what it opened, tells of all these where it ends
+-- with a feed and of no others, and has none open where it ends with a stream. Where no answer is wanted it gives none.
+use Rattle.std.specs.Prelude.{◌≡◌, ℕ, ◌<◌, nat_eq, List, [], ◌∷◌, ◌++◌, map, length, Bool, true, false, not, ◌&&◌, ◌||◌}
 use Rattle.std.specs.List.{AllByRecursion}
+use Rattle.reql_datum.specs.Plain.{Plain}
 use Rattle.reql_law.specs.Replies.{Answered as Told}
 use Rattle.reql_law.specs.declared.command.Cmd.{Cmd}
 use Rattle.reql_law.specs.declared.command.Cmd.TheVariants as cmds
 use Rattle.reql_law.specs.declared.command.Order.{Order}
 use Rattle.reql_law.specs.declared.reply.Saved.{Saved}
-use Rattle.reql_story.specs.Requests.{Arm, Sort, Change, Shown, Answered, Unsent, Feed, RunSlot, Ends, Found, RanSlot}
+use Rattle.reql_story.specs.Requests.{Arm, Sort, Change, Shown, Answered, Unsent, Stream, Feed, RunSlot, Ends, Found, RanSlot}
 use Rattle.reql_story.specs.Tasks.{Talk, arms_after}
 
 abbrev pub has_arm : ℕ → ℕ → List Arm → Bool
@@ -30,6 +31,21 @@ abbrev pub IsOther : Found → Type 0
 IsOther (RanSlot slot r saved) = ⊥
 IsOther other = Unit {0}
 
+-- the slots and numbers of arms
+abbrev pub places : List Arm → List (ℕ × ℕ)
+places arms = map (λ (a : Arm). (a.slot, a.feed)) arms
+
+-- each arm once
+abbrev pub are_apart : List Arm → Bool
+are_apart [] = true
+are_apart (a ∷ arms) = not (has_arm a.slot a.feed arms) && are_apart arms
+
+-- the arms of a feed are just those that are open, in their order, each once, and there is one
+pub record IsWhole (feed arms : List Arm) : Type 0 where
+  pub all : places feed ≡ places arms
+  pub apart : are_apart feed ≡ true
+  pub some : 0 < length feed
+
 module _ {PL : Type 0} (k : Talk PL) where
   -- `on` says of a plan, noreply, a count, what was found and the arms that are open that a course comes by there
   pub record PlansMind (on : PL → Bool → ℕ → List Found → List Arm → Type 0) : Type 0 where
@@ -41,5 +57,11 @@ module _ {PL : Type 0} (k : Talk PL) where
     pub ends : (plan : PL) (noreply : Bool) (count : ℕ) (found : List Found) (arms feed : List Arm) (notes : List ℕ) (items : List Shown) →
         on plan noreply count found arms → k.next plan noreply count found ≡ Ends (Feed feed notes items) →
         ((s f : ℕ) → has_arm s f feed ≡ true → has_arm s f arms ≡ true) × AllByRecursion (λ (x : Shown). IsAside x.sort) items
+    -- a feed is told with all that is open, so that none is left that a STOP does not close
+    pub whole : (plan : PL) (noreply : Bool) (count : ℕ) (found : List Found) (arms feed : List Arm) (notes : List ℕ) (items : List Shown) →
+        on plan noreply count found arms → k.next plan noreply count found ≡ Ends (Feed feed notes items) → IsWhole feed arms
+    -- a stream is told while nothing is open, so that its cursor keeps no feed
+    pub bare : (plan : PL) (noreply : Bool) (count : ℕ) (found : List Found) (arms : List Arm) (vs : List Plain) →
+        on plan noreply count found arms → k.next plan noreply count found ≡ Ends (Stream vs) → arms ≡ []
     -- where no answer is wanted there is none
     pub quiet : (plan : PL) (count : ℕ) (found : List Found) (a : Answered) → k.next plan true count found ≡ Ends a → a ≡ Unsent

@@ -1,7 +1,7 @@
 -- Plans that are easy to see through: plan 0 follows the table in slot 0, any other plan is answered its number less one.
 use Rattle.std.specs.Prelude.{◌≡◌, ℕ, zero, suc, pos, List, [], ◌∷◌, ◌++◌, Bool, true, false, cond, None, codes}
 use Rattle.std.specs.List.{AllByRecursion}
-use Rattle.std.proofs.Common.{refl, sym, ap, subst, ◌∙◌, true≢false}
+use Rattle.std.proofs.Common.{refl, sym, ap, subst, ◌∙◌, true≢false, arith}
 use Rattle.reql_datum.specs.Plain.{Plain, number}
 use Rattle.reql_answer.specs.declared.error.ErrorType.TheVariants as errors
 use Rattle.reql_feed_law.specs.declared.kind.FeedKind.TheVariants as kinds
@@ -17,9 +17,9 @@ use Rattle.reql_law.specs.declared.command.FeedSpec.{FeedSpec}
 use Rattle.reql_law.specs.declared.command.Order.{Order}
 use Rattle.reql_law.specs.declared.reply.Saved.{Saved}
 use Rattle.reql_law.specs.declared.reply.Saved.TheVariants as saved
-use Rattle.reql_story.specs.Requests.{ServerInfo, Arm, Shown, Answered, Unsent, One, Feed, Fault, Wanting, Move, LookNames, RunSlot, Ends, Found, SawNames, Clocked, SawSlot, RanSlot, ChangedNames, Rolled}
+use Rattle.reql_story.specs.Requests.{ServerInfo, Arm, Shown, Answered, Unsent, One, Stream, Feed, Fault, Wanting, Move, LookNames, RunSlot, Ends, Found, SawNames, Clocked, SawSlot, RanSlot, ChangedNames, Rolled}
 use Rattle.reql_story.specs.Tasks.{Talk, arms_said, arms_after}
-use Rattle.reql_story.specs.Minding.{has_arm, Minds, IsAside, IsOther, PlansMind}
+use Rattle.reql_story.specs.Minding.{has_arm, Minds, IsAside, IsOther, IsWhole, PlansMind}
 
 abbrev pub watch : FeedSpec
 watch = record { key = codes "id"; shape = form.slot 0; index = None; kind = kinds.Range; size = 2; offsets = false; types = false; squash = false }
@@ -199,11 +199,50 @@ quiet : (m : Move) (a : Answered) → hushed true m ≡ Ends a → a ≡ Unsent
 quiet (Ends x) a e = sym (ap answered_in e)
 quiet other a e = no_end other a refl e
 
+-- what is owed by what is open where a plan ends
+abbrev Owed : List Arm → Answered → Type 0
+Owed arms (Feed feed notes items) = IsWhole feed arms
+Owed arms (Stream vs) = arms ≡ []
+Owed arms other = Unit {0}
+
+end_owed : (s : Said Summary Plain) → Owed (arms_said 0 s []) (feed_end s)
+end_owed (said.Opened f o) = record { all = refl; apart = refl; some = omega arith }
+end_owed other = tt
+
+kept_owed : (s : Said Summary Plain) (kept : Saved) → Owed (arms_said 0 s []) (kept_end s kept)
+kept_owed s saved.Yes = end_owed s
+kept_owed s saved.Failed = tt
+kept_owed s saved.Memory = tt
+
+owed : (plan : ℕ) (found : List Found) → Owed (arms_of found) (answered_in (next plan found))
+owed zero [] = tt
+owed zero (x ∷ []) = tt
+owed zero (x ∷ RanSlot t r kept ∷ more) = kept_owed r.said kept
+owed zero (x ∷ SawNames p n ∷ more) = tt
+owed zero (x ∷ Clocked t ∷ more) = tt
+owed zero (x ∷ SawSlot s l ∷ more) = tt
+owed zero (x ∷ ChangedNames p r ∷ more) = tt
+owed zero (x ∷ Rolled b ∷ more) = tt
+owed (suc n) [] = tt
+owed (suc n) (x ∷ more) = tt
+
+hushed_owed : (noreply : Bool) (m : Move) (arms : List Arm) → Owed arms (answered_in m) → Owed arms (answered_in (hushed noreply m))
+hushed_owed true (Ends a) arms o = tt
+hushed_owed false (Ends a) arms o = o
+hushed_owed noreply other arms o = o
+
+ends_owed : (plan : ℕ) (noreply : Bool) (found : List Found) (arms : List Arm) (a : Answered) → arms ≡ arms_of found → hushed noreply (next plan found) ≡ Ends a → Owed arms a
+ends_owed plan noreply found arms a o e =
+    let owes : Owed arms (answered_in (next plan found)) = subst (λ z. Owed z (answered_in (next plan found))) (sym o) (owed plan found) in
+    subst (λ z. Owed arms (answered_in z)) e (hushed_owed noreply (next plan found) arms owes)
+
 pub sample_minds : PlansMind sample comes_by
 sample_minds = record {
   begins = λ plan noreply count. refl;
   runs = λ plan noreply count found arms slot order reply kept o e. runs plan noreply count found arms slot order reply kept o (run_back noreply (next plan found) slot order e);
   finds = λ plan noreply count found arms x o h. finds plan noreply count found arms x o h;
   ends = λ plan noreply count found arms feed notes items o e. ends plan noreply count found arms feed notes items o (feed_back noreply (next plan found) feed notes items e);
+  whole = λ plan noreply count found arms feed notes items o e. ends_owed plan noreply found arms (Feed feed notes items) o e;
+  bare = λ plan noreply count found arms vs o e. ends_owed plan noreply found arms (Stream vs) o e;
   quiet = λ plan count found a e. quiet (next plan found) a e;
 }

@@ -186,7 +186,8 @@ module _ {PL : Type 0} (k : Talk PL) where
   abbrev pub batch_size : PL → ℕ
   batch_size plan = lesser (k.batch plan) k.limits.batch
 
-  -- what a request comes to; a feed is kept, and what a plan opened for any other end is closed
+  -- What a request comes to. A feed is kept with all that its plan opened. What a plan opened for another end is closed, but for a
+  -- stream that is longer than a batch: a plan that ends with a stream has nothing open (`bare` of `PlansMind`).
   abbrev pub comes_to : Books → ℕ → ℕ → List Found → List Arm → Answered → Next PL
   comes_to b token batch found opened Unsent = close b token opened Settled None
   comes_to b token batch found opened (One v) = settle b token opened (Atom v (stamped b.names (points_from [] found)))

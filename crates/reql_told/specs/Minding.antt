@@ -1,23 +1,25 @@
 -- That plans, as a session is told of them, mind their feeds: what a session asks of plans, shown of these.
-use Rattle.std.proofs.Common.{◌≡◌, ℕ, List, [], ◌∷◌, ◌++◌, map, Bool, true, false, true≢false, not, ◌&&◌, ◌||◌, cond, refl, sym, ap, subst, ◌∙◌}
+use Rattle.std.proofs.Common.{◌≡◌, ℕ, suc, ◌<◌, List, [], ◌∷◌, ◌++◌, map, length, Bool, true, false, true≢false, not, ◌&&◌, ◌||◌, cond, refl, sym, ap, subst, ◌∙◌}
 use Rattle.std.specs.Prelude.{nat_eq}
 use Rattle.std.specs.List.{AllByRecursion}
 use Rattle.std.proofs.lemmas.Bool.{eqb-true}
 use Rattle.reql_datum.specs.Answer.{query_logic, non_existence, resource_limit, op_failed, user, no_text}
+use Rattle.reql_datum.specs.Plain.{Plain}
 use Rattle.reql_table_machine.specs.declared.command.Said.TheVariants as said
 use Rattle.reql_law.specs.declared.command.Cmd.{Cmd}
 use Rattle.reql_law.specs.declared.command.Cmd.TheVariants as cmds
 use Rattle.reql_law.specs.declared.command.Order.{Order}
 use Rattle.reql_law.specs.declared.limits.Limits.{Limits}
+use Rattle.reql_plan_law.specs.declared.parts.Plan.{Plan}
 use Rattle.reql_plan_law.specs.declared.parts.Setting.{Setting}
 use Rattle.reql_plan_law.specs.Course.{plan_next}
-use Rattle.reql_plan_law.specs.Minds.{Feeds, is_feed, has_feed, without_feed, with_opened, with_reply, MayRun, AreOpen, Comes, IsOther as IsOtherHeard}
+use Rattle.reql_plan_law.specs.Minds.{Feeds, is_feed, has_feed, without_feed, with_opened, with_reply, MayRun, AreOpen, TellsAll, feeds_in, are_apart as apart_feeds, Comes, IsOther as IsOtherHeard}
 use Rattle.reql_plan_law.specs.Move as plans
 use Rattle.reql_plan_law.specs.Request as requests
 use Rattle.reql_plan_law.proofs.Following.{plans_mind_each_step}
-use Rattle.reql_story.specs.Requests.{Arm, Opening, State, Shown, Answered, Unsent, Feed, Wanting, Move, RunSlot, Ends, Found, SawNames, Clocked, SawSlot, RanSlot, ChangedNames, Rolled}
+use Rattle.reql_story.specs.Requests.{Arm, Opening, State, Shown, Answered, Unsent, Stream, Feed, Wanting, Move, RunSlot, Ends, Found, SawNames, Clocked, SawSlot, RanSlot, ChangedNames, Rolled}
 use Rattle.reql_story.specs.Tasks.{arms_said, arms_after, others}
-use Rattle.reql_story.specs.Minding.{has_arm, Minds, IsAside, IsOther, PlansMind}
+use Rattle.reql_story.specs.Minding.{has_arm, Minds, IsAside, IsOther, are_apart, IsWhole, PlansMind}
 use Rattle.reql_told.specs.Told.{heard_of, arm_of, shown_of, answered_of, asked_of, move_of, setting_of, moves_of, talk, feeds_of, comes_by}
 
 -- ---- lists
@@ -182,6 +184,66 @@ next_ends : (m : requests.Next) (arms : List Arm) → ((feed : List plans.Arm) (
 next_ends (requests.answered o) arms are = ends_well o arms (λ feed notes items e. are feed notes items (ap requests.answered e))
 next_ends (requests.moves q) arms are = asked_ends q arms
 
+-- what is owed by what is open where a plan ends
+apart_same : (arms : List Arm) → apart_feeds (feeds_of arms) ≡ are_apart arms
+apart_same [] = refl
+apart_same (a ∷ arms) = λ i. not (has_same a.slot a.feed arms i) && apart_same arms i
+
+feeds_same : (feed : List plans.Arm) → feeds_of (map arm_of feed) ≡ feeds_in feed
+feeds_same [] = refl
+feeds_same (a ∷ feed) = ap (λ z. (a.slot, a.feed) ∷ z) (feeds_same feed)
+
+some_same : (feed : List plans.Arm) → length (map arm_of feed) ≡ length feed
+some_same [] = refl
+some_same (a ∷ feed) = ap suc (some_same feed)
+
+no_feeds : (arms : List Arm) → feeds_of arms ≡ [] → arms ≡ []
+no_feeds [] e = refl
+no_feeds (a ∷ arms) e = absurd (cc (e))
+
+is_whole : (feed : List plans.Arm) (arms : List Arm) → TellsAll (feeds_of arms) feed → IsWhole (map arm_of feed) arms
+is_whole feed arms t = record {
+  all = feeds_same feed ∙ t.all;
+  apart = sym (apart_same (map arm_of feed)) ∙ ap apart_feeds (feeds_same feed ∙ t.all) ∙ t.apart;
+  some = subst (λ n. 0 < n) (sym (some_same feed)) t.some;
+}
+
+abbrev Owed : List Arm → Answered → Type 0
+Owed arms (Feed feed notes items) = IsWhole feed arms
+Owed arms (Stream vs) = arms ≡ []
+Owed arms a = Unit {0}
+
+-- what a plan's outcome owes, by the plan's own law
+pub record Pays (o : plans.Outcome) (arms : List Arm) : Type 0 where
+  pub tells : (feed : List plans.Arm) (notes : List ℕ) (items : List plans.Item) → o ≡ plans.feed feed notes items → TellsAll (feeds_of arms) feed
+  pub bare : (ds : List Plain) → o ≡ plans.sequence ds → feeds_of arms ≡ []
+
+owes : (o : plans.Outcome) (arms : List Arm) → Pays o arms → Owed arms (answered_of o)
+owes plans.unsent arms pays = tt
+owes (plans.atom d) arms pays = tt
+owes (plans.grouped gs) arms pays = tt
+owes (plans.sequence ds) arms pays = no_feeds arms (pays.bare ds refl)
+owes (plans.feed feed notes items) arms pays = is_whole feed arms (pays.tells feed notes items refl)
+owes (plans.stop plans.memory) arms pays = tt
+owes (plans.stop (plans.fault (query_logic t))) arms pays = tt
+owes (plans.stop (plans.fault (non_existence t))) arms pays = tt
+owes (plans.stop (plans.fault (resource_limit t))) arms pays = tt
+owes (plans.stop (plans.fault (op_failed t))) arms pays = tt
+owes (plans.stop (plans.fault (user t))) arms pays = tt
+owes (plans.stop (plans.fault no_text)) arms pays = tt
+
+asked_owes : (q : plans.Ask) (arms : List Arm) → Owed arms (answered_in (asked_of q))
+asked_owes plans.look_names arms = tt
+asked_owes plans.tell arms = tt
+asked_owes (plans.look k) arms = tt
+asked_owes (plans.run k o) arms = tt
+asked_owes (plans.change_names c) arms = tt
+asked_owes plans.roll arms = tt
+
+next_owes : (m : requests.Next) (arms : List Arm) → ((o : plans.Outcome) → m ≡ requests.answered o → Pays o arms) → Owed arms (answered_in (move_of m))
+next_owes (requests.answered o) arms pays = owes o arms (pays o refl)
+next_owes (requests.moves q) arms pays = asked_owes q arms
+
 -- where each end is without an answer, so is it as it is told
 abbrev is_end : Move → Bool
 is_end (Ends a) = true
@@ -211,6 +273,17 @@ other_heard (RanSlot n r kept) o = o
 other_heard (ChangedNames place r) o = tt
 other_heard (Rolled bytes) o = tt
 
+-- of a plan in a session with these limits
+ends_owe : (limits : Limits) (plan : Plan) (noreply : Bool) (count : ℕ) (found : List Found) (arms : List Arm) (a : Answered) →
+    comes_by limits plan noreply count found arms → moves_of limits plan noreply count found ≡ Ends a → Owed arms a
+ends_owe limits plan noreply count found arms a o e =
+    let s : Setting = setting_of limits noreply count in
+    let hs : List plans.Heard = map heard_of found in
+    subst (λ z. Owed arms (answered_in z)) e (next_owes (plan_next plan s hs) arms (λ x h. record {
+      tells = λ feed notes items t. plans_mind_each_step.tells_all plan s hs (feeds_of arms) feed notes items o (h ∙ ap requests.answered t);
+      bare = λ ds t. plans_mind_each_step.bare plan s hs (feeds_of arms) ds o (h ∙ ap requests.answered t);
+    }))
+
 pub plans_are_told : (key : List ℕ) (limits : Limits) → PlansMind (talk key limits) (comes_by limits)
 plans_are_told key limits = record {
   begins = λ plan noreply count. plans_mind_each_step.begins plan (setting_of limits noreply count);
@@ -230,6 +303,8 @@ plans_are_told key limits = record {
       by_move (moves_of limits plan noreply count found) arms feed notes items e
       (next_ends (plan_next plan (setting_of limits noreply count) (map heard_of found)) arms
       (λ fs ns is h. plans_mind_each_step.tells plan (setting_of limits noreply count) (map heard_of found) (feeds_of arms) fs ns is o h));
+  whole = λ plan noreply count found arms feed notes items o e. ends_owe limits plan noreply count found arms (Feed feed notes items) o e;
+  bare = λ plan noreply count found arms vs o e. ends_owe limits plan noreply count found arms (Stream vs) o e;
   quiet = λ plan count found a e.
       next_quiet (plan_next plan (setting_of limits true count) (map heard_of found)) a (λ o h. plans_mind_each_step.quiet plan (setting_of limits true count) (map heard_of found) o refl h) e;
 }
