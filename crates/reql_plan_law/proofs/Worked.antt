@@ -9,7 +9,7 @@ reads = (refl, refl, refl, refl, refl, refl, refl, refl, refl, refl, refl, refl,
 
 pub writes : Writes
 unfolding op_rule
-writes = (refl, refl, refl, refl, refl, refl, refl, refl, refl, refl, refl, refl, refl, refl, refl, refl, refl, refl, refl, refl)
+writes = (refl, refl, refl, refl, refl, refl, refl, refl, refl, refl, refl, refl, refl, refl, refl, refl, refl, refl, refl, refl, refl, refl, refl, refl)
 
 pub commands : Commands
 unfolding op_rule
@@ -17,7 +17,7 @@ commands = (refl, refl, refl, refl, refl, refl, refl, refl, refl, refl, refl, re
 
 pub feeds : Feeds
 unfolding op_rule
-feeds = (refl, refl, refl, refl, refl, refl, refl, refl, refl, refl, refl, refl, refl, refl, refl, refl, refl, refl)
+feeds = (refl, refl, refl, refl, refl, refl, refl, refl, refl, refl, refl, refl, refl, refl, refl, refl, refl, refl, refl, refl, refl, refl, refl)
 
 pub planned : Planned
 planned = (refl, refl, refl, refl, refl, refl, refl, refl)

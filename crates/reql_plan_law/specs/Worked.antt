@@ -1,7 +1,7 @@
--- Worked rows of plans: the next move of a request, by what it heard so far. The database test has the table docs in slot 0, zoo has birds in
--- slot 1, whose key field is `id` too.
+-- Worked rows of plans: the next move of a request, by what it heard so far. The database test has the table docs in slot 0, whose key field is
+-- `id`, and zoo has birds in slot 1, whose key field is `name`.
 use Prim.Native.String.{String}
-use Rattle.std.specs.Prelude.{◌≡◌, ℕ, pos, List, [], ◌∷◌, Some, None, Bool, true, false, codes}
+use Rattle.std.specs.Prelude.{◌≡◌, ℕ, pos, List, [], ◌∷◌, Option, Some, None, Bool, true, false, codes}
 use Rattle.reql_datum.specs.Answer.{Reason, op_failed, query_logic, resource_limit}
 use Rattle.reql_datum.specs.Plain.{Plain, boolean, null, number, text, time}
 use Rattle.reql_datum.specs.declared.point.Point.{Point}
@@ -38,14 +38,14 @@ use Rattle.reql_plan_law.specs.Summed.{nothing_done, summary_shown}
 abbrev database : ℕ → List (Bytes × ℕ) → Database
 database k tables = record { number = k; tables = tables }
 
-abbrev holds : String → String → Slot
-holds db table = record { table = Some (record { db = codes db; name = codes table; key = codes "id" }) }
+abbrev holds : String → String → String → Slot
+holds db table key = record { table = Some (record { db = codes db; name = codes table; key = codes key }) }
 
 abbrev ns : Named
 ns = record {
   place = 0;
   dbs = (codes "test", database 0 ((codes "docs", 0) ∷ [])) ∷ (codes "zoo", database 1 ((codes "birds", 1) ∷ [])) ∷ [];
-  slots = holds "test" "docs" ∷ holds "zoo" "birds" ∷ [];
+  slots = holds "test" "docs" "id" ∷ holds "zoo" "birds" "name" ∷ [];
 }
 
 abbrev n : ℕ → Plain
@@ -109,14 +109,29 @@ runs k ps c = moves (run k (record { points = ps; cmd = c }))
 abbrev fails : Reason → Next
 fails e = answered (stop (fault e))
 
+abbrev writes_by : String → Act → Cmd
+writes_by key a = cmds.Write (record { key = codes key; act = a; returns = returns.No; hard = true })
+
 abbrev writes : Act → Cmd
-writes a = cmds.Write (record { key = codes "id"; act = a; returns = returns.No; hard = true })
+writes a = writes_by "id" a
 
 abbrev inserts : List Plain → List Plain → Cmd
 inserts ds made = writes (act.Insert ds conflicts.Error made)
 
+abbrev inserts_birds : List Plain → List Plain → Cmd
+inserts_birds ds made = writes_by "name" (act.Insert ds conflicts.Error made)
+
 abbrev doc : ℕ → Plain
 doc k = object_of ((codes "id", n k) ∷ [])
+
+abbrev bird : ℕ → Plain
+bird k = object_of ((codes "id", n k) ∷ (codes "name", n k) ∷ [])
+
+abbrev bird_row : ℕ → Document
+bird_row k = (n k, bird k)
+
+abbrev bird_term : Form
+bird_term = keyed (named_of ((codes "name", num 5) ∷ []))
 
 abbrev nameless : Plain
 nameless = object_of ((codes "n", n 1) ∷ [])
@@ -168,6 +183,9 @@ Reads =
 abbrev insert : Form → Form
 insert f = call op.Insert (docs ∷ f ∷ [])
 
+abbrev insert_bird : Form → Form
+insert_bird f = call op.Insert (birds ∷ f ∷ [])
+
 abbrev update : Form → Form → Form
 update f g = call op.Update (f ∷ g ∷ [])
 
@@ -179,6 +197,10 @@ count_birds = call op.Count (birds ∷ [])
 
 abbrev each : Form
 each = call op.ForEach (several (forms_of (num 1 ∷ num 2 ∷ [])) ∷ function (7 ∷ []) (insert (doc_term (variable 7))) ∷ [])
+
+-- the documents from 1 to 2, with both of these
+abbrev closed : List (Bytes × Form)
+closed = (codes "right_bound", name "closed") ∷ []
 
 abbrev pub Writes : Type 0
 Writes =
@@ -193,8 +215,12 @@ Writes =
     × (goes (insert nameless_term) (rolled (Some bytes) ∷ []) ≡ runs 0 [] (inserts (nameless ∷ []) (key ∷ [])))
     × (goes (insert (num 1)) [] ≡ fails (query_logic (codes "Expected type OBJECT but found NUMBER.")))
     × (goes (insert birds) [] ≡ moves (look 1))
-    × (goes (insert birds) (sees 2 1 (row 5 ∷ []) ∷ []) ≡ runs 0 (at 1 2 1 ∷ []) (inserts (doc 5 ∷ []) []))
-    × (goes (update sum_key (doc_term count_birds)) (sees 2 1 (row 5 ∷ []) ∷ []) ≡ runs 0 (at 1 2 1 ∷ []) (writes (act.Update (call op.Get (slot 0 ∷ num 2 ∷ [])) (literal (doc 1)))))
+    × (goes (insert birds) (sees 2 1 (bird_row 5 ∷ []) ∷ []) ≡ runs 0 (at 1 2 1 ∷ []) (inserts (bird 5 ∷ []) []))
+    × (goes (insert_bird bird_term) [] ≡ runs 1 [] (inserts_birds (object_of ((codes "name", n 5) ∷ []) ∷ []) []))
+    × (goes (insert_bird (doc_term (num 1))) [] ≡ moves roll)
+    × (goes (insert_bird (doc_term (num 1))) (rolled (Some bytes) ∷ []) ≡ runs 1 [] (inserts_birds (doc 1 ∷ []) (key ∷ [])))
+    × (goes (call op.Delete (with op.Between (docs ∷ num 1 ∷ num 2 ∷ []) closed ∷ [])) [] ≡ runs 0 [] (writes (act.Delete (with op.Between (slot 0 ∷ num 1 ∷ num 2 ∷ []) closed))))
+    × (goes (update sum_key (doc_term count_birds)) (sees 2 1 (bird_row 5 ∷ []) ∷ []) ≡ runs 0 (at 1 2 1 ∷ []) (writes (act.Update (call op.Get (slot 0 ∷ num 2 ∷ [])) (literal (doc 1)))))
     × (goes (update (call op.Map (docs ∷ function (1 ∷ []) (variable 1) ∷ [])) (num 1)) (sees 0 0 [] ∷ []) ≡ fails (query_logic (codes "Expected a selection.")))
     × (goes (update docs (function (1 ∷ []) count_birds)) [] ≡ fails (query_logic (codes "Could not prove argument deterministic.")))
     × (goes each [] ≡ runs 0 [] (inserts (doc 1 ∷ []) []))
@@ -244,8 +270,11 @@ changes f ms = with op.Changes (f ∷ []) ms
 abbrev yes : Form
 yes = literal (boolean true)
 
-abbrev subscribes : ℕ → Form → FeedKind → Next
-subscribes k f kind = runs k [] (cmds.Subscribe (record { key = codes "id"; shape = f; index = None; kind = kind; size = 100000; offsets = false; types = false; squash = false }))
+abbrev follows : String → Form → Option Bytes → FeedKind → Cmd
+follows key f index kind = cmds.Subscribe (record { key = codes key; shape = f; index = index; kind = kind; size = 100000; offsets = false; types = false; squash = false })
+
+abbrev subscribes : Form → FeedKind → Next
+subscribes f kind = runs 0 [] (follows "id" f None kind)
 
 abbrev opened : ℕ → List Plain → Heard
 opened k items = says (said.Opened k items)
@@ -259,31 +288,37 @@ state s = object_of ((codes "state", text (codes s)) ∷ [])
 abbrev united : Form
 united = call op.Union (docs ∷ birds ∷ [])
 
+abbrev first_by : String → Form → Form → Form
+first_by s f c = call op.Limit (with op.OrderBy (f ∷ []) ((codes "index", name s) ∷ []) ∷ c ∷ [])
+
 abbrev first_of : Form → Form → Form
-first_of f c = call op.Limit (with op.OrderBy (f ∷ []) ((codes "index", name "n") ∷ []) ∷ c ∷ [])
+first_of f c = first_by "n" f c
 
 abbrev first_ones : Form → Form
 first_ones c = first_of docs c
 
+abbrev low : Form → Form
+low f = call op.Between (f ∷ num 1 ∷ num 2 ∷ [])
+
 abbrev low_keys : Form
-low_keys = call op.Between (docs ∷ num 1 ∷ num 2 ∷ [])
+low_keys = low docs
 
 abbrev no_value : Form
 no_value = call op.Desc (literal (boolean true) ∷ [])
 
 abbrev pub Feeds : Type 0
 Feeds =
-    (goes (changes docs []) [] ≡ subscribes 0 (slot 0) kinds.Range)
+    (goes (changes docs []) [] ≡ subscribes (slot 0) kinds.Range)
     × (goes (changes docs []) (opened 1 (doc 1 ∷ []) ∷ []) ≡ answered (feed (record { slot = 0; feed = 1; dropped = dropped_docs } ∷ []) (1 ∷ []) []))
     × (goes (changes docs ((codes "include_initial", yes) ∷ (codes "include_states", yes) ∷ [])) (opened 1 (doc 1 ∷ []) ∷ []) ≡
     answered (feed (record { slot = 0; feed = 1; dropped = dropped_docs } ∷ []) (1 ∷ 5 ∷ [])
     (record { arm = 0; is_state = true; stamp = 7; shown = state "initializing" } ∷ record { arm = 0; is_state = false; stamp = 7; shown = doc 1 } ∷ record { arm = 0; is_state = true; stamp = 7; shown = state "ready" } ∷ [])))
-    × (goes (changes sum_key []) [] ≡ subscribes 0 (call op.Get (slot 0 ∷ num 2 ∷ [])) kinds.Point)
+    × (goes (changes sum_key []) [] ≡ subscribes (call op.Get (slot 0 ∷ num 2 ∷ [])) kinds.Point)
     × (goes (changes (call op.Get (docs ∷ literal null ∷ [])) []) [] ≡ fails (query_logic (codes "Value of type NULL cannot be a key.")))
     × (quietly (changes docs []) [] ≡ answered unsent)
     × (plan_next (plan (changes docs [])) full (names ns ∷ []) ≡ fails (resource_limit (codes "Too many cursors.")))
     × (goes (changes docs ((codes "changefeed_queue_size", num 0) ∷ [])) [] ≡ fails (query_logic (codes "Bad value for optional argument `changefeed_queue_size`.")))
-    × (goes (changes united []) (opened 1 [] ∷ []) ≡ subscribes 1 (slot 1) kinds.Range)
+    × (goes (changes united []) (opened 1 [] ∷ []) ≡ runs 1 [] (follows "name" (slot 1) None kinds.Range))
     × (goes (changes united []) (opened 1 [] ∷ says (said.FeedsFull 4) ∷ []) ≡ runs 0 [] (cmds.Unsubscribe 1))
     × (goes (changes united []) (opened 1 [] ∷ says (said.FeedsFull 4) ∷ says said.Closed ∷ []) ≡ fails (resource_limit (codes "Too many feeds.")))
     × (goes (changes (first_ones (num 2)) []) [] ≡ moves (look 0))
@@ -293,7 +328,13 @@ Feeds =
     × (goes (changes (first_of low_keys (num 2)) []) (sees 0 0 [] ∷ []) ≡ fails (query_logic (codes "Misplaced ordering or index.")))
     × (goes (changes (first_of low_keys (num 2)) ((codes "include_types", num 1) ∷ [])) (sees 0 0 [] ∷ []) ≡ fails (query_logic (codes "Bad value for optional argument `include_types`.")))
     × (goes (changes (first_ones (num 2)) []) (sees 0 0 [] ∷ []) ≡
-    runs 0 (at 0 0 0 ∷ []) (cmds.Subscribe (record { key = codes "id"; shape = call op.Limit (with op.OrderBy (slot 0 ∷ []) ((codes "index", name "n") ∷ []) ∷ num 2 ∷ []); index = Some (codes "n"); kind = kinds.Limit 2; size = 100000; offsets = false; types = false; squash = false })))
+    runs 0 (at 0 0 0 ∷ []) (follows "id" (first_of (slot 0) (num 2)) (Some (codes "n")) (kinds.Limit 2)))
+    × (goes (changes birds []) [] ≡ runs 1 [] (follows "name" (slot 1) None kinds.Range))
+    × (goes (changes (first_by "name" (low birds) (num 2)) []) (sees 0 0 [] ∷ []) ≡
+    runs 1 (at 1 0 0 ∷ []) (follows "name" (first_by "name" (low (slot 1)) (num 2)) (Some (codes "name")) (kinds.Limit 2)))
+    × (goes (changes (first_by "id" (low birds) (num 2)) []) (sees 0 0 [] ∷ []) ≡ fails (query_logic (codes "Misplaced ordering or index.")))
+    × (goes (changes (with op.Between (docs ∷ num 1 ∷ num 2 ∷ []) closed) []) [] ≡ subscribes (with op.Between (slot 0 ∷ num 1 ∷ num 2 ∷ []) closed) kinds.Range)
+    × (goes (changes (with op.Between (docs ∷ num 1 ∷ num 2 ∷ []) ((codes "right_bound", name "n") ∷ [])) []) [] ≡ fails (query_logic (codes "Bad value for optional argument `right_bound`.")))
 
 -- ---- what planning leaves, and what it never does: a table that was not looked up, a variable or a table from outside, a count or an option
 -- that an operator doesn't take
