@@ -1,3 +1,4 @@
 pub mod Doors
 pub mod Nets
+pub mod Posts
 pub mod Tcp

@@ -15,6 +15,15 @@ pub record NetTold : Type 0 where
   pub faults : ℕ
   pub sound : Bool
 
+-- the first three of these, as a net counts them
+pub record Asking : Type 0 where
+  pub asked : ℕ
+  pub last : Option (ℕ × ℕ)
+  pub faults : ℕ
+
+abbrev pub told_of : Asking → Bool → NetTold
+told_of a sound = record { asked = a.asked; last = a.last; faults = a.faults; sound = sound }
+
 -- a net before its first call
 abbrev pub unasked : Bool → NetTold
 unasked sound = record { asked = 0; last = None; faults = 0; sound = sound }

@@ -1,9 +1,11 @@
 // Doors and nets in memory, which hand out their lists.
-ghost use Rattle.std.specs.Prelude.{◌≡◌, length, false, IfOk, OnErr};
+ghost use Rattle.std.specs.Prelude.{◌≡◌, length, true, get_or, drop, IfOk, IfErr, OnErr};
 ghost use Rattle.std.specs.List.{All};
+ghost use Rattle.reql_outside.specs.Source.{source, first};
 ghost use Rattle.reql_outside.specs.Tape.{IsFresh};
 ghost use Rattle.reql_net.specs.Doors.{opening, Opens, Hands};
-ghost use Rattle.reql_net.specs.Nets.{IsUntouched, unasked};
+ghost use Rattle.reql_net.specs.Nets.{IsUntouched, IsSound, asks, Counts};
+ghost use Rattle.reql_net.specs.Posts.{blank_post, stocked, HandsOut, HandsNone};
 
 use crate::asked::Asked;
 use crate::door::{Accept, Door};
@@ -12,6 +14,7 @@ use reql_memory::Memory;
 use reql_outside::{MemClock, MemDice, MemLink};
 use std::alloc::Global;
 use std::marker::Model;
+use std::snapshot::Snapshot;
 
 /// A door in memory, which gives the links of a list in order, and then `End`, for good.
 #[derive(Drop)]
@@ -90,6 +93,8 @@ impl Door for MemDoor {
 /// A net in memory, which hands out posts of a list in order, and then posts of empty lists.
 #[derive(Drop)]
 pub struct MemNet {
+    // the list that it was made of, as clauses see it: it takes no memory
+    made_of: Snapshot<Vec<Post<MemDoor, MemDice, MemClock>>>,
     posts: Vec<Post<MemDoor, MemDice, MemClock>>,
     calls: u64,
     fails: Vec<u64>,
@@ -97,36 +102,46 @@ pub struct MemNet {
 }
 
 impl Model for MemNet {
-    ghost use Rattle.std.specs.Prelude.{◌≡◌, false};
+    ghost use Rattle.std.specs.Prelude.{◌≡◌, true};
     ghost use Rattle.std.specs.List.{All};
-    ghost use Rattle.reql_net.specs.Nets.{NetTold, IsUntouched};
+    ghost use Rattle.reql_net.specs.Nets.{IsUntouched, told_of};
+    ghost use Rattle.reql_net.specs.Posts.{PostsListed, all_sound};
 
-    ghost Value = { NetTold };
+    ghost Value = { PostsListed };
 
-    ghost view = { λ n. n.told };
+    ghost view = { λ n. record {
+      told = told_of n.told (all_sound n.made_of.value.items);
+      posts = n.posts.items;
+      calls = n.calls;
+      fails = n.fails.items;
+    } };
 
-    ghost invariant = { λ n. All (IsUntouched (λ d. d.told)) n.posts.items × (n.told.sound ≡ false) };
+    ghost invariant = { λ n.
+        All (IsUntouched (λ d. d.told)) n.posts.items
+        × (all_sound n.made_of.value.items ≡ true → all_sound n.posts.items ≡ true) };
 }
 
 impl MemNet {
-    /// A net that gives these, whose doors have given nothing; the k-th call, from 0, fails where k is in
-    /// the list. It isn't sound. It takes no memory.
+    /// A net that gives these, whose doors have given nothing; the k-th call, from 0, fails where k
+    /// is in the list. It is sound exactly where the dice and the clock of each of these are. It
+    /// takes no memory.
     pub fn new(posts: Vec<Post<MemDoor, MemDice, MemClock>>, fails: Vec<u64>) -> MemNet
         requires { All (IsUntouched (λ d. d.told)) posts.items }
-        ensures { result ≡ unasked false }
+        ensures { result ≡ stocked posts.items fails.items }
     {
         MemNet {
+            made_of: Snapshot::of(&posts),
             posts,
             calls: 0,
             fails,
-            told: Asked::new(false),
+            told: Asked::new(),
         }
     }
 }
 
 // A post of empty lists.
 fn blank(alloc: Global) -> Post<MemDoor, MemDice, MemClock>
-    ensures { IsUntouched (λ d. d.told) result }
+    ensures { result ≡ blank_post }
 {
     Post {
         door: MemDoor::new(Vec::new(alloc), Vec::new(alloc)),
@@ -135,14 +150,13 @@ fn blank(alloc: Global) -> Post<MemDoor, MemDice, MemClock>
     }
 }
 
-// The next post of a list.
+// The next post of a list, or one of empty lists past its end.
 fn next_post(
     alloc: Global,
     posts: &mut Vec<Post<MemDoor, MemDice, MemClock>>,
 ) -> Post<MemDoor, MemDice, MemClock>
-    requires { All (IsUntouched (λ d. d.told)) posts.old.items }
-    ensures given { IsUntouched (λ d. d.told) result }
-    ensures left { All (IsUntouched (λ d. d.told)) posts.new.items }
+    ensures given { result ≡ get_or posts.old.items 0 blank_post }
+    ensures left { posts.new.items ≡ drop 1 posts.old.items }
 {
     if posts.is_empty() {
         return blank(alloc);
@@ -156,10 +170,8 @@ fn next_posts(
     posts: &mut Vec<Post<MemDoor, MemDice, MemClock>>,
     n: u32,
 ) -> Result<Vec<Post<MemDoor, MemDice, MemClock>>, Memory>
-    requires { All (IsUntouched (λ d. d.told)) posts.old.items }
-    ensures count { IfOk result (λ given. length given.items ≡ n) }
-    ensures given { IfOk result (λ given. All (IsUntouched (λ d. d.told)) given.items) }
-    ensures left { All (IsUntouched (λ d. d.told)) posts.new.items }
+    ensures given { IfOk result (λ given. given.items ≡ first posts.old.items blank_post n) }
+    ensures left { IfOk result (λ _. posts.new.items ≡ drop n posts.old.items) }
     ensures same { OnErr result (posts.new.items ≡ posts.old.items) }
 {
     let mut given = Vec::with_capacity(alloc, n as usize)?;
@@ -177,14 +189,22 @@ impl Net for MemNet {
 
     type Clock = MemClock;
 
-    ghost told = { λ n. n };
+    ghost told = { λ n. n.told };
 
     fn doors(
         &mut self,
         alloc: Global,
         port: u16,
         n: u32,
-    ) -> Result<Vec<Post<MemDoor, MemDice, MemClock>>, NetFault> {
+    ) -> Result<Vec<Post<MemDoor, MemDice, MemClock>>, NetFault>
+        ensures count { IfOk result (λ posts. length posts.items ≡ n) }
+        ensures untouched { IfOk result (λ posts. All (IsUntouched (λ d. d.told)) posts.items) }
+        ensures sound { IfOk result (λ posts. self.old.told.sound ≡ true → All (IsSound source source) posts.items) }
+        ensures asked { IfOk result (λ posts. self.new.told ≡ asks self.old.told port n 0) }
+        ensures failed { IfErr result (Counts self.old.told self.new.told port n) }
+        ensures hands { IfOk result (λ posts. HandsOut self.old self.new n posts.items) }
+        ensures none { IfErr result (HandsNone self.old self.new) }
+    {
         let fails = self.fails.contains(&self.calls);
         self.calls = self.calls.saturating_add(1);
         self.told.ask(port, n);

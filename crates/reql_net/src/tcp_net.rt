@@ -102,7 +102,7 @@ impl Door for TcpDoor {
 }
 
 /// A net over TCP on the address 127.0.0.1. The doors of one call share a listener, and all links of
-/// the net one bell. It isn't sound.
+/// the net one bell. It isn't sound, as the dice and the clock of the system aren't.
 #[derive(Drop)]
 pub struct TcpNet {
     rt: HostRuntime,
@@ -111,14 +111,12 @@ pub struct TcpNet {
 }
 
 impl Model for TcpNet {
-    ghost use Rattle.std.specs.Prelude.{◌≡◌, false};
-    ghost use Rattle.reql_net.specs.Nets.{NetTold};
+    ghost use Rattle.std.specs.Prelude.{false};
+    ghost use Rattle.reql_net.specs.Nets.{NetTold, told_of};
 
     ghost Value = { NetTold };
 
-    ghost view = { λ n. n.told };
-
-    ghost invariant = { λ n. n.told.sound ≡ false };
+    ghost view = { λ n. told_of n.told false };
 }
 
 impl TcpNet {
@@ -131,7 +129,7 @@ impl TcpNet {
         Ok(TcpNet {
             rt,
             bell,
-            told: Asked::new(false),
+            told: Asked::new(),
         })
     }
 
