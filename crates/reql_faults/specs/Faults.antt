@@ -9,8 +9,8 @@ use Rattle.reql_term.specs.declared.role.Task.{Task}
 use Rattle.reql_term.specs.declared.role.Task.TheVariants as task
 use Rattle.reql_faults.specs.declared.fault.CompileFault.{CompileFault}
 use Rattle.reql_faults.specs.declared.fault.CompileFault.TheVariants as fault
-use Rattle.reql_faults.specs.declared.place.Place.{Place}
-use Rattle.reql_faults.specs.declared.place.Place.TheVariants as place
+use Rattle.reql_faults.specs.declared.standing.Place.{Place}
+use Rattle.reql_faults.specs.declared.standing.Place.TheVariants as place
 use Rattle.reql_faults.specs.declared.shape.Shape.{Shape}
 use Rattle.reql_faults.specs.declared.shape.Shape.TheVariants as shapes
 use Rattle.reql_faults.specs.Places.{text_at, is_true_at, first, second, third, count, option}

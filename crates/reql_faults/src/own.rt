@@ -7,9 +7,9 @@ ghost use Rattle.reql_faults.specs.Finds.{Finds};
 
 use crate::fault::CompileFault;
 use crate::names::are_literal;
-use crate::place::Place;
 use crate::places::{first, is_true_at, option};
 use crate::shape::{Shape, shape_at};
+use crate::standing::Place;
 use crate::task::fits_task;
 use reql_term::{Op, Task, TermFields, Terms};
 

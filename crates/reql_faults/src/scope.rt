@@ -3,7 +3,7 @@ ghost use Rattle.std.specs.Prelude.{◌≡◌};
 ghost use Rattle.reql_faults.specs.Faults.{at, is_one, body_of};
 ghost use Rattle.reql_faults.specs.Finds.{around};
 
-use crate::place::Place;
+use crate::standing::Place;
 
 /// Where a term stands, and whether a function of one parameter is among those around it.
 #[derive(Clone, Copy, Drop)]

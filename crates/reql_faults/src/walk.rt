@@ -9,8 +9,8 @@ ghost use Rattle.reql_faults.specs.declared.fault.CompileFault.TheVariants.{Unbo
 
 use crate::fault::CompileFault;
 use crate::own::{own_fault, unless};
-use crate::place::Place;
 use crate::scope::Scope;
+use crate::standing::Place;
 use reql_term::{Body, Op, Params, Task, Term, TermFields, Terms};
 use std::alloc::Global;
 

@@ -6,7 +6,7 @@ use reql_term::Task;
 
 /// Where a term stands.
 #[derive(Clone, Copy, Drop)]
-pub(crate) enum Place {
+pub enum Place {
     /// At the root.
     Root,
     /// As an arm of a BRANCH at the root.
