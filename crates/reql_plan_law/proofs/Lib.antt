@@ -5,3 +5,7 @@ pub mod Following
 pub mod Follows
 pub mod Limits
 pub mod Opened
+pub mod Planned
+pub mod Closing
+pub mod Carried
+pub mod Opens

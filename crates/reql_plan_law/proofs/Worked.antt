@@ -1,7 +1,8 @@
 -- The worked rows, by computing.
 use Rattle.std.specs.Prelude.{refl}
+use Rattle.reql_faults.specs.Faults.{own}
 use Rattle.reql_naming.specs.Named.{op_rule}
-use Rattle.reql_plan_law.specs.Worked.{Reads, Writes, Commands, Feeds, Planned}
+use Rattle.reql_plan_law.specs.Worked.{Reads, Writes, Commands, Feeds, Planned, Carried}
 
 pub reads : Reads
 unfolding op_rule
@@ -21,3 +22,7 @@ feeds = (refl, refl, refl, refl, refl, refl, refl, refl, refl, refl, refl, refl,
 
 pub planned : Planned
 planned = (refl, refl, refl, refl, refl, refl, refl, refl)
+
+pub carried : Carried
+unfolding op_rule own
+carried = (refl, refl, refl, refl, refl, refl, refl)

@@ -13,3 +13,4 @@ pub mod Course
 pub mod Worked
 pub mod Minds
 pub mod Follows
+pub mod Opens

@@ -1,8 +1,8 @@
 -- Worked rows of plans: the next move of a request, by what it heard so far. The database test has the table docs in slot 0, whose key field is
 -- `id`, and zoo has birds in slot 1, whose key field is `name`.
 use Prim.Native.String.{String}
-use Rattle.std.specs.Prelude.{◌≡◌, ℕ, pos, List, [], ◌∷◌, Option, Some, None, Bool, true, false, codes}
-use Rattle.reql_datum.specs.Answer.{Reason, op_failed, query_logic, resource_limit}
+use Rattle.std.specs.Prelude.{◌≡◌, ℕ, ℤ, pos, List, [], ◌∷◌, Option, Some, None, Bool, true, false, Ok, Err, codes}
+use Rattle.reql_datum.specs.Answer.{Answer, Reason, op_failed, query_logic, resource_limit}
 use Rattle.reql_datum.specs.Plain.{Plain, boolean, null, number, text, time}
 use Rattle.reql_datum.specs.declared.point.Point.{Point}
 use Rattle.reql_term.specs.Form.{Form, literal, several, keyed, variable, function, slot, operation, forms_of, named_of, no_named}
@@ -10,6 +10,8 @@ use Rattle.reql_term.specs.Views.{Document}
 use Rattle.reql_term.specs.declared.op.Op.{Op}
 use Rattle.reql_term.specs.declared.op.Op.TheVariants as op
 use Rattle.reql_rules.specs.Lists.{Bytes, object_of}
+use Rattle.reql_faults.specs.Faults.{plan_fault}
+use Rattle.reql_faults.specs.declared.fault.CompileFault.TheVariants as faults
 use Rattle.reql_catalog.specs.Catalog.{Named}
 use Rattle.reql_catalog.specs.declared.database.Database.{Database}
 use Rattle.reql_catalog.specs.declared.slot.Slot.{Slot}
@@ -31,8 +33,10 @@ use Rattle.reql_plan_law.specs.declared.parts.Setting.{Setting}
 use Rattle.reql_plan_law.specs.Course.{plan_next}
 use Rattle.reql_plan_law.specs.Follows.{is_planned}
 use Rattle.reql_plan_law.specs.Move.{look_names, tell, look, run, change_names, roll, Replied, Heard, names, told, looked, ran, changed, rolled, fault, memory, unsent, atom, sequence, feed, stop}
+use Rattle.reql_plan_law.specs.Opens.{is_asked, carried_as}
 use Rattle.reql_plan_law.specs.Request.{Next, answered, moves}
 use Rattle.reql_plan_law.specs.Summed.{nothing_done, summary_shown}
+use Rattle.reql_plan_law.specs.Texts.{undetermined}
 
 -- ---- in short
 abbrev database : ℕ → List (Bytes × ℕ) → Database
@@ -351,3 +355,26 @@ Planned =
     × (is_planned (call op.Map (slot 0 ∷ function (1 ∷ []) (slot 1) ∷ [])) ≡ false)
     × (is_planned (call op.Between (slot 0 ∷ num 1 ∷ [])) ≡ false)
     × (is_planned (with op.Filter (slot 0 ∷ over_one ∷ []) ((codes "index", name "n") ∷ [])) ≡ false)
+
+-- ---- what becomes of a term before it is carried out, and what never has a plan or is never read
+abbrev carries : Option ℤ → Form → Answer Form
+carries moment f = carried_as ns (codes "test") moment f
+
+abbrev is_after : Form → Form
+is_after moment = function (1 ∷ []) (call op.Gt (call op.GetField (variable 1 ∷ name "at" ∷ []) ∷ moment ∷ []))
+
+abbrev later : Form → Form → Form
+later table moment = changes (call op.Filter (table ∷ is_after moment ∷ [])) []
+
+abbrev twice : List (Bytes × Form)
+twice = (codes "default", yes) ∷ (codes "default", yes) ∷ []
+
+abbrev pub Carried : Type 0
+Carried =
+    (carries (Some (pos 5)) (later docs (call op.Now [])) ≡ Ok (later (slot 0) (literal (time (pos 5, pos 0)))))
+    × (carries None (changes (call op.Map (docs ∷ function (1 ∷ []) (call op.Count (birds ∷ [])) ∷ [])) []) ≡ Err undetermined)
+    × (plan_fault (changes (call op.Map (docs ∷ function (1 ∷ []) (variable 2) ∷ [])) []) ≡ Some (faults.Unbound 2))
+    × (plan_fault (call op.Count (changes docs [] ∷ [])) ≡ Some faults.FeedShape)
+    × (is_asked (changes (call op.Get (docs ∷ num 2 ∷ [])) []) ≡ true)
+    × (is_asked (changes (call op.Get (docs ∷ [])) []) ≡ false)
+    × (is_asked (changes (with op.Filter (docs ∷ over_one ∷ []) twice) []) ≡ false)

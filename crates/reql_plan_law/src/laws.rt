@@ -1,6 +1,7 @@
 // Laws of plans.
 ghost use Rattle.reql_plan_law.specs.Follows.{FeedsAreRead, LimitsAreRead, PointsAreRead, RangesAreRead};
 ghost use Rattle.reql_plan_law.specs.Minds.{PlansMind, PlansMindEachStep};
+ghost use Rattle.reql_plan_law.specs.Opens.{AskedFeedsAreRead, PlannedFeedsAreRead};
 
 /// A plan takes nothing of a feed and closes no feed but those that it opened and that are open still; where it ends with
 /// a feed, the arms are just those that are open, each once, and there is one; where it ends with a sequence none is open.
@@ -23,4 +24,12 @@ pub fn feeds_are_read()
     ensures points { PointsAreRead }
     ensures limits { LimitsAreRead }
     ensures feeds { FeedsAreRead }
+{}
+
+/// Every feed that a plan opens follows something, whatever its moves are answered, where its term has no
+/// fault, and each operator in it has a count of arguments and options that it takes, each option once, as in
+/// every term that is read. So no request is answered with a feed that shows nothing for ever.
+pub fn planned_feeds_are_read()
+    ensures changes { PlannedFeedsAreRead }
+    ensures asked { AskedFeedsAreRead }
 {}
