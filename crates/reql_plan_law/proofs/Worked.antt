@@ -10,7 +10,7 @@ reads = (refl, refl, refl, refl, refl, refl, refl, refl, refl, refl, refl, refl,
 
 pub writes : Writes
 unfolding op_rule
-writes = (refl, refl, refl, refl, refl, refl, refl, refl, refl, refl, refl, refl, refl, refl, refl, refl, refl, refl, refl, refl, refl, refl, refl, refl)
+writes = (refl, refl, refl, refl, refl, refl, refl, refl, refl, refl, refl, refl, refl, refl, refl, refl, refl, refl, refl, refl, refl, refl, refl, refl, refl, refl, refl)
 
 pub commands : Commands
 unfolding op_rule

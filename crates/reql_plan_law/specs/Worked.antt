@@ -3,12 +3,13 @@
 use Prim.Native.String.{String}
 use Rattle.std.specs.Prelude.{◌≡◌, ℕ, ℤ, pos, List, [], ◌∷◌, Option, Some, None, Bool, true, false, Ok, Err, codes}
 use Rattle.reql_datum.specs.Answer.{Answer, Reason, op_failed, query_logic, resource_limit}
-use Rattle.reql_datum.specs.Plain.{Plain, boolean, null, number, text, time}
+use Rattle.reql_datum.specs.Plain.{Plain, array, boolean, items_of, null, number, text, time}
 use Rattle.reql_datum.specs.declared.point.Point.{Point}
-use Rattle.reql_term.specs.Form.{Form, literal, several, keyed, variable, function, slot, operation, forms_of, named_of, no_named}
+use Rattle.reql_term.specs.Form.{Form, literal, several, keyed, variable, implicit, function, slot, operation, forms_of, named_of, no_named}
 use Rattle.reql_term.specs.Views.{Document}
 use Rattle.reql_term.specs.declared.op.Op.{Op}
 use Rattle.reql_term.specs.declared.op.Op.TheVariants as op
+use Rattle.reql_rules.specs.Faults.{over_array}
 use Rattle.reql_rules.specs.Lists.{Bytes, object_of}
 use Rattle.reql_faults.specs.Faults.{plan_fault}
 use Rattle.reql_faults.specs.declared.fault.CompileFault.TheVariants as faults
@@ -81,6 +82,10 @@ full = record { noreply = false; batch = 2; cursors = 1; opened = 1 }
 
 abbrev plan : Form → Plan
 plan f = record { term = f; db = codes "test"; array_limit = 100000; batch = 1000 }
+
+-- with an array limit of so many
+abbrev tight : ℕ → Form → Plan
+tight limit f = record { term = f; db = codes "test"; array_limit = limit; batch = 1000 }
 
 -- after the names were looked at
 abbrev goes : Form → List Heard → Next
@@ -202,6 +207,19 @@ count_birds = call op.Count (birds ∷ [])
 abbrev each : Form
 each = call op.ForEach (several (forms_of (num 1 ∷ num 2 ∷ [])) ∷ function (7 ∷ []) (insert (doc_term (variable 7))) ∷ [])
 
+-- the documents of a table each have a list of lists, which are written one after another
+abbrev lists : Form
+lists = call op.ConcatMap (docs ∷ function (1 ∷ []) (call op.GetField (variable 1 ∷ name "a" ∷ [])) ∷ [])
+
+abbrev three : Plain
+three = array (items_of (n 1 ∷ n 2 ∷ n 3 ∷ []))
+
+abbrev each_list : Form → Form
+each_list f = call op.ForEach (lists ∷ function (7 ∷ []) (insert (keyed (named_of ((codes "id", num 9) ∷ (codes "v", f) ∷ [])))) ∷ [])
+
+abbrev sees_lists : Heard
+sees_lists = sees 1 1 ((n 1, object_of ((codes "a", array (items_of (three ∷ []))) ∷ (codes "id", n 1) ∷ [])) ∷ [])
+
 -- the documents from 1 to 2, with both of these
 abbrev closed : List (Bytes × Form)
 closed = (codes "right_bound", name "closed") ∷ []
@@ -230,6 +248,10 @@ Writes =
     × (goes each [] ≡ runs 0 [] (inserts (doc 1 ∷ []) []))
     × (goes each (one_done ∷ []) ≡ runs 0 [] (inserts (doc 2 ∷ []) []))
     × (goes each (one_done ∷ one_done ∷ []) ≡ shown 2)
+    × (plan_next (tight 2 (each_list (variable 7))) (setting false) (names ns ∷ sees_lists ∷ []) ≡ fails (over_array 2))
+    × (plan_next (tight 2 (each_list implicit)) (setting false) (names ns ∷ sees_lists ∷ []) ≡ fails (over_array 2))
+    × (plan_next (tight 3 (each_list (variable 7))) (setting false) (names ns ∷ sees_lists ∷ []) ≡
+    runs 0 (at 0 1 1 ∷ []) (inserts (object_of ((codes "id", n 9) ∷ (codes "v", three) ∷ []) ∷ []) []))
     × (goes (call op.Branch (literal (boolean false) ∷ num 1 ∷ insert (doc_term (num 3)) ∷ [])) [] ≡ runs 0 [] (inserts (doc 3 ∷ []) []))
     × (goes (call op.Branch (literal (boolean true) ∷ num 1 ∷ insert (doc_term (num 3)) ∷ [])) [] ≡ answered (atom (n 1)))
 

@@ -1,15 +1,15 @@
 // An element of a FOR_EACH in the place of its variable.
-ghost use Rattle.std.specs.Prelude.{◌≡◌, nat_eq, IfOk, option_map};
+ghost use Rattle.std.specs.Prelude.{◌≡◌, ◌∷◌, [], IfOk, option_map};
 ghost use Rattle.reql_datum.specs.Outcome.{Gives};
 ghost use Rattle.reql_datum.specs.View.{plain};
-ghost use Rattle.reql_term.specs.Form.{literal};
+ghost use Rattle.reql_term.specs.Form.{function, variable};
 ghost use Rattle.reql_term.specs.View.{form_of};
 ghost use Rattle.reql_faults.specs.Faults.{is_bound as is_bound_of, is_one as is_one_of};
-ghost use Rattle.reql_plan_law.specs.Reads.{unless_bound, variable_rule, parameter_rule, with_element as with_element_of};
+ghost use Rattle.reql_plan_law.specs.Reads.{is_array as is_array_of, returned as returned_of, element_term as element_term_of, unless_bound, variable_rule, parameter_rule, with_element as with_element_of};
 
 use reql_datum::{Datum, Fault, Memory};
 use reql_rewrite::{Rule, rewrite};
-use reql_term::Term;
+use reql_term::{Body, Op, Params, Term, TermFields, Terms};
 use std::alloc::Global;
 
 /// The rule by which a variable becomes an element, up to functions that bind it anew.
@@ -29,9 +29,9 @@ struct OfParameter<'a> {
 impl Rule for OfVariable<'_> {
     ghost rule = { λ s. variable_rule s.id (plain s.element.now) };
 
-    fn instead(&self, _alloc: Global, term: &Term) -> Result<Option<Term>, Fault> {
+    fn instead(&self, alloc: Global, term: &Term) -> Result<Option<Term>, Fault> {
         match term {
-            Term::Var(id) => Ok(literal_if(*id == self.id, self.element)?),
+            Term::Var(id) => Ok(element_if(alloc, *id == self.id, self.element)?),
             Term::Func(ids, _) => Ok(same_if(is_bound(self.id, ids.as_slice()), term)?),
             _ => Ok(None),
         }
@@ -41,9 +41,9 @@ impl Rule for OfVariable<'_> {
 impl Rule for OfParameter<'_> {
     ghost rule = { λ s. parameter_rule (plain s.element.now) };
 
-    fn instead(&self, _alloc: Global, term: &Term) -> Result<Option<Term>, Fault> {
+    fn instead(&self, alloc: Global, term: &Term) -> Result<Option<Term>, Fault> {
         match term {
-            Term::Row => Ok(Some(Term::Lit(self.element.copy()?))),
+            Term::Row => Ok(Some(element_term(alloc, self.element)?)),
             Term::Func(ids, _) => Ok(same_if(is_one(ids.as_slice()), term)?),
             _ => Ok(None),
         }
@@ -59,15 +59,58 @@ pub fn with_element(alloc: Global, id: u64, element: &Datum, term: &Term) -> Res
     rewrite(alloc, &OfParameter { element }, &placed)
 }
 
-// The element as a literal, where it takes the place.
-fn literal_if(is_it: bool, element: &Datum) -> Result<Option<Term>, Memory>
+// The element as a term, where it takes the place.
+fn element_if(alloc: Global, is_it: bool, element: &Datum) -> Result<Option<Term>, Memory>
     ensures { IfOk result (λ o. option_map form_of o
-        ≡ unless_bound is_it (literal (plain element.now))) }
+        ≡ unless_bound is_it (element_term_of (plain element.now))) }
 {
     if is_it {
-        return Ok(Some(Term::Lit(element.copy()?)));
+        return Ok(Some(element_term(alloc, element)?));
     }
     Ok(None)
+}
+
+// The element as a term: an array so that it is held against the array limit.
+fn element_term(alloc: Global, element: &Datum) -> Result<Term, Memory>
+    ensures { IfOk result (λ t. form_of t ≡ element_term_of (plain element.now)) }
+{
+    if is_array(element) {
+        return returned(alloc, element);
+    }
+    Ok(Term::Lit(element.copy()?))
+}
+
+fn is_array(element: &Datum) -> bool
+    ensures { result ≡ is_array_of (plain element.now) }
+{
+    match element {
+        Datum::List(_) => true,
+        _ => false,
+    }
+}
+
+// A call of the function that gives its parameter.
+fn returned(alloc: Global, element: &Datum) -> Result<Term, Memory>
+    ensures { IfOk result (λ t. form_of t ≡ returned_of (plain element.now)) }
+{
+    let mut args = Terms::with_room(alloc, 2)?;
+    args.push(same(alloc)?)?;
+    args.push(Term::Lit(element.copy()?))?;
+    let opts = TermFields::new(alloc);
+    Ok(Term::Op {
+        op: Op::Funcall,
+        args,
+        opts,
+    })
+}
+
+// The function that gives its parameter.
+fn same(alloc: Global) -> Result<Term, Memory>
+    ensures { IfOk result (λ t. form_of t ≡ function (0 ∷ []) (variable 0)) }
+{
+    let mut ids = Params::with_room(alloc, 1)?;
+    ids.push(0)?;
+    Ok(Term::Func(ids, Body::new(alloc, Term::Var(0))?))
 }
 
 // The same term, where nothing in it is replaced.
