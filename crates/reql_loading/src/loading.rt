@@ -3,7 +3,7 @@ ghost use Rattle.std.specs.Prelude.{◌<◌, length, map, string_bytes, IfOk, If
 ghost use Rattle.reql_words.specs.Words.{asks};
 ghost use Rattle.reql_core.specs.Core.{state_of};
 ghost use Rattle.reql_open_feed.specs.Open.{held_in};
-ghost use Rattle.reql_told.specs.Laws.{AllInOrder, AllFramesHandled, AllWornLate, AllFirstFailed, AllValidClose, AllFeedsHold};
+ghost use Rattle.reql_told.specs.Laws.{AllInOrder, AllFramesHandled, AllWornLate, AllFirstFailed, AllValidClose, AllFeedsHold, AllFeedsAreRead};
 ghost use Rattle.reql_serve.specs.Many.{at_end};
 ghost use Rattle.reql_loading.specs.Loading.{IsServed, Loads, Prints, Reports, Unloaded};
 
@@ -17,7 +17,7 @@ use reql_outside::{Put, Sink};
 use reql_run::{Core, serve_posts};
 use reql_serve::Many;
 use reql_tally::tally_history;
-use reql_told::sessions_hold;
+use reql_told::{feeds_are_read, sessions_hold};
 use reql_words::{Command, command_of};
 use std::alloc::Global;
 use std::sync::Wait;
@@ -99,7 +99,8 @@ fn print<K: Sink>(
 ///
 /// With other words the status is 2, and nothing is served or printed. What is proved of every session of these plans stands
 /// beside what these did: its input is handled in order, every whole frame of it, it ends with its first failed send, and every
-/// feed that it opened folds to the value of its query. What else is, of planning and refusals, stands beside `run` of `reql_run`.
+/// feed that it opened follows something and folds to the value of its query. What else is, of planning and refusals, stands
+/// beside `run` of `reql_run`.
 pub fn load<R, K: Sink>(rt: &R, alloc: Global, words: &[String], out: &mut K) -> Loaded
 where
     R: Threads + Wait + Sync,
@@ -114,8 +115,10 @@ where
     ensures first_failed { AllFirstFailed }
     ensures valid_close { AllValidClose }
     ensures feeds_hold { AllFeedsHold }
+    ensures feeds_are_read { AllFeedsAreRead }
 {
     sessions_hold();
+    feeds_are_read();
     let Command::Load { seed, size } = command_of(words) else {
         return Loaded {
             status: 2,

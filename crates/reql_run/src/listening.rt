@@ -7,7 +7,7 @@ ghost use Rattle.reql_core.specs.Core.{state_of};
 ghost use Rattle.reql_open_feed.specs.Open.{held_in};
 ghost use Rattle.reql_law.specs.Laws.{DocsAtStamp, StampCounts};
 ghost use Rattle.reql_law.specs.Terms.{PointsShowTheirTerms, RangesShowTheirTerms, LimitsShowTheirTerms};
-ghost use Rattle.reql_told.specs.Laws.{AllInOrder, AllFramesHandled, AllWornLate, AllFirstFailed, AllValidClose, AllFeedsHold, BatchesAgree, InfoIsServers, PlansAreTold};
+ghost use Rattle.reql_told.specs.Laws.{AllInOrder, AllFramesHandled, AllWornLate, AllFirstFailed, AllValidClose, AllFeedsHold, AllFeedsAreRead, BatchesAgree, InfoIsServers, PlansAreTold};
 ghost use Rattle.reql_told.specs.Refusing.{FirstRefusal, ShapeRefusal};
 ghost use Rattle.reql_net.specs.Nets.{Counts};
 ghost use Rattle.reql_serve.specs.Working.{outside};
@@ -23,7 +23,9 @@ use reql_net::{Door, Net, NetFault, Post};
 use reql_outside::{Clock, Dice, Link};
 use reql_planner::QueryPlanner;
 use reql_serve::{Left, Many, WorkState, serve_many};
-use reql_told::{QueryPlans, first_refusal, plans_are_told, server_is_told, sessions_hold};
+use reql_told::{
+    QueryPlans, feeds_are_read, first_refusal, plans_are_told, server_is_told, sessions_hold,
+};
 use reql_words::{Command, command_of};
 use std::alloc::Global;
 use std::sync::Wait;
@@ -165,6 +167,7 @@ where
     ensures batches { BatchesAgree }
     ensures server { InfoIsServers }
     ensures feeds_hold { AllFeedsHold }
+    ensures feeds_are_read { AllFeedsAreRead }
     ensures documents { DocsAtStamp }
     ensures stamps { StampCounts }
     ensures points { PointsShowTheirTerms }
@@ -175,6 +178,7 @@ where
     plans_are_told();
     server_is_told();
     sessions_hold();
+    feeds_are_read();
     table_laws();
     feeds_show_their_terms();
     let Command::Listen {

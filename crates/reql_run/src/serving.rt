@@ -6,7 +6,7 @@ ghost use Rattle.reql_core.specs.Core.{state_of};
 ghost use Rattle.reql_open_feed.specs.Open.{held_in};
 ghost use Rattle.reql_law.specs.Laws.{DocsAtStamp, StampCounts};
 ghost use Rattle.reql_law.specs.Terms.{PointsShowTheirTerms, RangesShowTheirTerms, LimitsShowTheirTerms};
-ghost use Rattle.reql_told.specs.Laws.{AllInOrder, AllFramesHandled, AllWornLate, AllFirstFailed, AllValidClose, AllFeedsHold, BatchesAgree, InfoIsServers, PlansAreTold};
+ghost use Rattle.reql_told.specs.Laws.{AllInOrder, AllFramesHandled, AllWornLate, AllFirstFailed, AllValidClose, AllFeedsHold, AllFeedsAreRead, BatchesAgree, InfoIsServers, PlansAreTold};
 ghost use Rattle.reql_told.specs.Refusing.{FirstRefusal, ShapeRefusal};
 ghost use Rattle.reql_run.specs.Running.{IsServed, Serves, Unserved};
 
@@ -17,7 +17,7 @@ use reql_memory::Refused;
 use reql_outside::{Clock, Dice, Link};
 use reql_planner::QueryPlanner;
 use reql_serve::{Ended, serve_one};
-use reql_told::{first_refusal, plans_are_told, server_is_told, sessions_hold};
+use reql_told::{feeds_are_read, first_refusal, plans_are_told, server_is_told, sessions_hold};
 use reql_words::{Command, command_of};
 use std::alloc::Global;
 use std::sync::Wait;
@@ -58,7 +58,8 @@ fn serve<R: Wait, L: Link + Drop, D: Dice + Drop, T: Clock + Drop>(
 /// whatever its input, stands beside what this one did: its input is handled in order, every whole frame of it; a valid input,
 /// which is nothing or a greeting that is accepted and whole frames within the limit, is handled to its last frame, and the
 /// status is 0, unless a receive or a send failed, it took more turns than there are, or memory was wanted; every request is
-/// answered by its plan, or by the first of its refusals; and every feed that it opened folds to the value of its query.
+/// answered by its plan, or by the first of its refusals; and every feed that it opened follows something, so that none shows
+/// nothing for ever, and folds to the value of its query.
 pub fn run<R: Wait, L: Link + Drop, D: Dice + Drop, T: Clock + Drop>(
     rt: &R,
     alloc: Global,
@@ -84,6 +85,7 @@ pub fn run<R: Wait, L: Link + Drop, D: Dice + Drop, T: Clock + Drop>(
     ensures batches { BatchesAgree }
     ensures server { InfoIsServers }
     ensures feeds_hold { AllFeedsHold }
+    ensures feeds_are_read { AllFeedsAreRead }
     ensures documents { DocsAtStamp }
     ensures stamps { StampCounts }
     ensures points { PointsShowTheirTerms }
@@ -94,6 +96,7 @@ pub fn run<R: Wait, L: Link + Drop, D: Dice + Drop, T: Clock + Drop>(
     plans_are_told();
     server_is_told();
     sessions_hold();
+    feeds_are_read();
     table_laws();
     feeds_show_their_terms();
     let Command::Stdio { key, tables } = command_of(words) else {

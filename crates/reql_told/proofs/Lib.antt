@@ -1,3 +1,5 @@
 pub mod Batches
 pub mod Refusing
 pub mod Worked
+pub mod Once
+pub mod Feeds

@@ -1,20 +1,34 @@
 -- What is so of sessions that are told of these plans, whatever their key and their limits.
-use Rattle.std.specs.Prelude.{◌≡◌, ℕ, List, min}
+use Rattle.std.specs.Prelude.{◌≡◌, ℕ, List, Bool, min}
 use Rattle.reql_admin.specs.Server.{server}
 use Rattle.reql_json.specs.Showing.{shown}
 use Rattle.reql_hall.specs.Shares.{IsKept}
+use Rattle.reql_law.specs.declared.command.Cmd.TheVariants as cmds
+use Rattle.reql_law.specs.declared.command.FeedSpec.{FeedSpec}
+use Rattle.reql_law.specs.declared.command.Order.{Order}
 use Rattle.reql_law.specs.declared.limits.Limits.{Limits}
 use Rattle.reql_plan_law.specs.declared.parts.Plan.{Plan}
+use Rattle.reql_plan_law.specs.Follows.{IsRead}
 use Rattle.reql_story.specs.Bodies.{server_info}
 use Rattle.reql_story.specs.Explained.{ExplainedBy}
 use Rattle.reql_story.specs.Laws as story
 use Rattle.reql_story.specs.Minding.{PlansMind}
-use Rattle.reql_story.specs.Tasks.{batch_size}
+use Rattle.reql_story.specs.Requests.{Start, RunSlot, Found}
+use Rattle.reql_story.specs.Tasks.{Talk, batch_size}
 use Rattle.reql_told.specs.Told.{talk, comes_by}
 
 -- plans mind their feeds
 abbrev pub PlansAreTold : Type 0
 PlansAreTold = (key : List ℕ) (limits : Limits) → PlansMind (talk key limits) (comes_by limits)
+
+-- every feed that the plan of a body opens, whatever was found before, follows something: it is not one that shows nothing for ever
+abbrev pub FeedsAreRead : Talk Plan → Type 0
+FeedsAreRead k =
+    (body : List ℕ) (noreply : Bool) (plan : Plan) (quiet : Bool) (count : ℕ) (found : List Found) (n : ℕ) (order : Order) (spec : FeedSpec)
+    → k.asked body ≡ Start noreply plan → k.next plan quiet count found ≡ RunSlot n order → order.cmd ≡ cmds.Subscribe spec → IsRead spec
+
+abbrev pub AllFeedsAreRead : Type 0
+AllFeedsAreRead = (key : List ℕ) (limits : Limits) → FeedsAreRead (talk key limits)
 
 -- a session cuts a plan's answers by the batch that the plan counts by
 abbrev pub BatchesAgree : Type 0

@@ -1,5 +1,5 @@
 // Laws of sessions that plan ReQL.
-ghost use Rattle.reql_told.specs.Laws.{PlansAreTold, BatchesAgree, InfoIsServers, AllInOrder, AllFramesHandled, AllWornLate, AllFirstFailed, AllValidClose, AllKept, AllOneMore, AllLearning, AllNothingLeft, AllFeedsHold};
+ghost use Rattle.reql_told.specs.Laws.{PlansAreTold, BatchesAgree, InfoIsServers, AllInOrder, AllFramesHandled, AllWornLate, AllFirstFailed, AllValidClose, AllKept, AllOneMore, AllLearning, AllNothingLeft, AllFeedsHold, AllFeedsAreRead};
 ghost use Rattle.reql_told.specs.Refusing.{FirstRefusal, ShapeRefusal};
 
 /// Plans, as a session is told of them, take from no feed, close only what they opened and is open still, and tell of
@@ -7,6 +7,12 @@ ghost use Rattle.reql_told.specs.Refusing.{FirstRefusal, ShapeRefusal};
 pub fn plans_are_told()
     ensures told { PlansAreTold }
     ensures batches { BatchesAgree }
+{}
+
+/// Every feed that a session opens for a body that it was sent follows something, whatever the body is and whatever the
+/// moves of its plan are answered: no request is answered with a feed that shows nothing for ever.
+pub fn feeds_are_read()
+    ensures { AllFeedsAreRead }
 {}
 
 /// A START is refused by the first of its refusals before anything is looked at: that its token has something open, the
