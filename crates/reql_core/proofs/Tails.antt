@@ -95,7 +95,7 @@ module _ (k : Kept Moment Entry) (room : Bool) (n : Kept Moment Entry) (e : Entr
   lengthens_from l = record { base = l.base; entries = l.entries }
 
   moves_from : Moves stand_of led_by roomy n e → Moves stand_of led_by k n e
-  moves_from m = record { gone = m.gone; left = m.left; parts = m.parts; base = m.base; entries = m.entries; least = m.least }
+  moves_from m = record { gone = m.gone; left = m.left; some = m.some; parts = m.parts; base = m.base; entries = m.entries; least = m.least }
 
   adds_from : Adds stand_of led_by roomy n e → Adds stand_of led_by k n e
   adds_from a = record { opening = a.opening; most = a.most; how = ⊎_elim (λ h. inl (h.0, lengthens_from h.1)) (λ h. inr (h.0, moves_from h.1)) a.how }

@@ -21,10 +21,11 @@ module _ {B E S : Type 0} (state : B → S) (after : S → E → S) where
     pub base : new.base ≡ old.base
     pub entries : new.entries ≡ old.entries ++ entry ∷ []
 
-  -- an entry more, where a first part goes: the base is what it led to, and the part that stays has half of the most
+  -- an entry more, where a first part goes, of one entry at least: the base is what it led to, and the part that stays has half of the most
   pub record Moves (old new : Kept B E) (entry : E) : Type 0 where
     pub gone : List E
     pub left : List E
+    pub some : 1 ≤ length gone
     pub parts : old.entries ≡ gone ++ left
     pub base : state new.base ≡ led after (state old.base) gone
     pub entries : new.entries ≡ left ++ entry ∷ []
