@@ -26,6 +26,9 @@ use Rattle.reql_turns.specs.declared.ears.Phase.TheVariants as phases
 use Rattle.reql_talk.proofs.Running.{gave_nothing, runs_none, runs_on, ends_on, ends_here_on, runs_quiet, ends_quiet}
 use Rattle.reql_turns.proofs.Greeted.{standing, over_here}
 
+pub whole_room : (room : ℕ) → room ≡ 65536 → room ≤ 65536
+whole_room room e = omega (arith, e)
+
 pub within : (t u : Tape) (room : ℕ) (piece : List ℕ) → room ≤ 65536 → Came t u room piece → Came t u 65536 piece
 within t u room piece h c = record { moves = c.moves; some = c.some; fits = omega (arith, c.fits, h) }
 

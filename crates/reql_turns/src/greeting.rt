@@ -1,5 +1,5 @@
 // The turns of the greeting, each after its visits.
-ghost use Rattle.std.specs.Prelude.{◌≡◌, ◌<◌, ◌≤◌, [], length};
+ghost use Rattle.std.specs.Prelude.{◌≡◌, [], length};
 ghost use Rattle.reql_wire.specs.Greeting.{Greets};
 ghost use Rattle.reql_story.specs.Tasks.{Talk};
 ghost use Rattle.reql_turns.specs.Ears.{Hears, IsEnd};
@@ -29,8 +29,7 @@ pub(crate) fn hear_more<H: Handler<L>, L: Link>(
     ears: &mut Ears,
     buf: &mut [u8],
 ) -> Option<End>
-    requires room { 0 < length buf.old }
-    requires most { length buf.old ≤ 65536 }
+    requires room { length buf.old ≡ 65536 }
     requires short { Greets ears.old.greeter.key ears.old.greeter.heard Greeting.More }
     requires none { ears.old.feeder.held ≡ [] }
     ensures { (k : Talk H.Plan) → Hears k phases.Waiting (L.tape link.old) (L.tape link.new) ears.old

@@ -1,5 +1,5 @@
 // A whole session.
-ghost use Rattle.std.specs.Prelude.{◌≡◌, ◌<◌, ◌≤◌, false, [], length, IfSome};
+ghost use Rattle.std.specs.Prelude.{◌≡◌, false, [], length, IfSome};
 ghost use Rattle.reql_outside.specs.Tape.{IsFresh};
 ghost use Rattle.reql_story.specs.Books.{no_books};
 ghost use Rattle.reql_story.specs.Session.{Rest};
@@ -15,7 +15,7 @@ use reql_story::End;
 use reql_wire::{Feeder, Greeter};
 use std::alloc::Global;
 
-/// The most bytes that one receive gives.
+/// Each receive has room for so many bytes.
 const RECEIVED_BYTES: usize = 65536;
 
 /// How a session ended, and in how many turns.
@@ -33,8 +33,7 @@ fn serve<H: Handler<L>, L: Link>(
     buf: &mut [u8],
     turns: u64,
 ) -> Over
-    requires room { 0 < length buf.old }
-    requires most { length buf.old ≤ 65536 }
+    requires room { length buf.old ≡ 65536 }
     requires first { IsFirst (H.talk handler.old) ears.old }
     requires ready { H.ready handler.old }
     requires books { (H.work handler.old).books ≡ no_books }
@@ -61,8 +60,7 @@ fn room(alloc: Global, key: &[u8], limit: u32) -> Option<(Ears, Vec<u8>)>
     ensures key { IfSome result (λ r. r.0.greeter ≡ record { key = key.now; heard = [] }) }
     ensures feeder { IfSome result (λ r. r.0.feeder ≡ record { limit = limit; held = [] }) }
     ensures phase { IfSome result (λ r. r.0.phase ≡ Phase.Waiting) }
-    ensures some { IfSome result (λ r. 0 < length r.1.items) }
-    ensures most { IfSome result (λ r. length r.1.items ≤ 65536) }
+    ensures room { IfSome result (λ r. length r.1.items ≡ 65536) }
 {
     let buf = vec![in alloc; 0u8; RECEIVED_BYTES].ok()?;
     let greeter = Greeter::new(alloc, key).ok()?;

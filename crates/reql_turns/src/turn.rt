@@ -1,5 +1,5 @@
 // One turn of a session.
-ghost use Rattle.std.specs.Prelude.{◌≡◌, ◌<◌, ◌≤◌, true, [], length};
+ghost use Rattle.std.specs.Prelude.{◌≡◌, true, [], length};
 ghost use Rattle.reql_story.specs.Session.{Rest, Visits};
 ghost use Rattle.reql_talk.specs.World.{Outcome, world_at};
 ghost use Rattle.reql_turns.specs.Ears.{IsHearing, ReceivesMore, TurnFrom};
@@ -14,8 +14,7 @@ use reql_wire::{Feeder, WireFault};
 
 // Receives once, where no whole frame is held.
 fn receive_more<L: Link>(link: &mut L, feeder: &mut Feeder, buf: &mut [u8]) -> Option<End>
-    requires room { 0 < length buf.old }
-    requires most { length buf.old ≤ 65536 }
+    requires room { length buf.old ≡ 65536 }
     ensures receives { ReceivesMore (L.tape link.old) (L.tape link.new) feeder.old.held feeder.new.held result }
     ensures limit { feeder.new.limit ≡ feeder.old.limit }
 {
@@ -36,8 +35,7 @@ fn go_on<H: Handler<L>, L: Link>(
     handler: &mut H,
     buf: &mut [u8],
 ) -> Option<End>
-    requires room { 0 < length buf.old }
-    requires most { length buf.old ≤ 65536 }
+    requires room { length buf.old ≡ 65536 }
     requires ready { H.ready handler.old }
     ensures ready { H.ready handler.new }
     ensures hall { H.hall handler.new ≡ H.hall handler.old }
@@ -62,8 +60,7 @@ pub(crate) fn turn<H: Handler<L>, L: Link>(
     handler: &mut H,
     buf: &mut [u8],
 ) -> Option<End>
-    requires room { 0 < length buf.old }
-    requires most { length buf.old ≤ 65536 }
+    requires room { length buf.old ≡ 65536 }
     requires ready { H.ready handler.old }
     requires hearing { IsHearing (H.talk handler.old) (H.work handler.old) ears.old }
     ensures ready { H.ready handler.new }
