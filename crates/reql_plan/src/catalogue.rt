@@ -19,7 +19,7 @@ use reql_held::Held;
 use reql_law::{Cmd, Order, Reply};
 use reql_moves::{Answered, Ask, Found, Kept, db_there, kept_by, no_db, no_table, table_there};
 use reql_ready::cat_command;
-use reql_stages::{Stage, Turn, lost, points_of, refused};
+use reql_stages::{Stage, Turn, asks, lost, points_of, refused};
 use reql_telling::{dropped_by, made_by, names_in};
 use reql_term::{Op, TableView, TermFields, Terms};
 use std::alloc::Global;
@@ -37,21 +37,26 @@ pub(crate) fn change<V: TableView + Drop>(
         (change_catalogue k op (forms_of args.now) (named_of opts.now) ends) }
 {
     match cat_command(alloc, &e, op, args, opts) {
-        Ok(command) => ask_names(e, command),
+        Ok(command) => ask_names(alloc, e, command),
         Err(why) => refused(why),
     }
 }
 
-fn ask_names<V: TableView + Drop>(e: Held<V>, command: CatCmd) -> Result<Turn<V>, Memory>
+fn ask_names<V: TableView + Drop>(
+    alloc: Global,
+    e: Held<V>,
+    command: CatCmd,
+) -> Result<Turn<V>, Memory>
     ensures { let k = held V.documents V.indexes V.entries e in
         Turns V.documents V.indexes V.entries result
         (asks (change_names command) (λ h. change_heard k command h ends)) }
 {
     let asked = copied(&command)?;
-    Ok(Turn::Ask(
+    asks(
+        alloc,
         Ask::ChangeNames(asked),
         Stage::Catalogue { held: e, command },
-    ))
+    )
 }
 
 fn copied(command: &CatCmd) -> Result<CatCmd, Memory>
@@ -246,7 +251,8 @@ fn shuts<V: TableView + Drop>(
                 points,
                 cmd: Cmd::Shut,
             };
-            Ok(Turn::Ask(
+            asks(
+                alloc,
                 Ask::Run(slot, order),
                 Stage::Shuts {
                     held: e,
@@ -255,7 +261,7 @@ fn shuts<V: TableView + Drop>(
                     slots,
                     place: place + 1,
                 },
-            ))
+            )
         }
         None => {
             let count = slots.len() as u64;

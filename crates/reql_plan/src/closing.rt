@@ -13,7 +13,7 @@ use reql_held::Held;
 use reql_law::{Cmd, Order};
 use reql_moves::{Answered, Ask};
 use reql_operand::no_index;
-use reql_stages::{Refusal, Stage, Turn, dropped, points_of};
+use reql_stages::{Refusal, Stage, Turn, asks, dropped, points_of};
 use reql_telling::Open;
 use reql_term::TableView;
 use std::alloc::Global;
@@ -38,7 +38,8 @@ pub(crate) fn closing<V: TableView + Drop>(
                 points,
                 cmd: Cmd::Unsubscribe { feed },
             };
-            Ok(Turn::Ask(
+            asks(
+                alloc,
                 Ask::Run(slot, order),
                 Stage::Closing {
                     held: e,
@@ -46,7 +47,7 @@ pub(crate) fn closing<V: TableView + Drop>(
                     before,
                     place: place + 1,
                 },
-            ))
+            )
         }
         None => told(alloc, &e.names, why),
     }

@@ -1,10 +1,11 @@
 // A request's course: its moves, one after another.
-ghost use Rattle.std.specs.Prelude.{◌≡◌, option_map, Some, None};
+ghost use Rattle.std.specs.Prelude.{◌≡◌, option_map, None};
 ghost use Rattle.reql_plan_law.specs.Request.{request};
 ghost use Rattle.reql_plan_law.specs.Course.{course};
 ghost use Rattle.reql_law.specs.Engines.{HoldsEntries};
 ghost use Rattle.reql_moves.specs.Heard.{heard, outcome_of};
 ghost use Rattle.reql_stages.specs.Rest.{rest_of};
+ghost use Rattle.reql_plan.specs.declared.course.Waiting.TheVariants.{In, Over};
 ghost use Rattle.reql_stages.specs.Turn.{Turns, turn_of};
 ghost use Rattle.reql_plan.specs.Moved.{Goes, Moved, left_in, left_of, First, quieted};
 
@@ -22,11 +23,20 @@ use reql_term::TableView;
 use std::alloc::Global;
 use std::mem;
 
+/// What a request waits for: the names that its plan is resolved by, or the answer to a later move;
+/// or it is over.
+#[derive(Drop)]
+pub enum Waiting<V> {
+    Names { plan: Plan, setting: Setting },
+    In(Box<Stage<V>>),
+    Over,
+}
+
 /// A request as it goes, by the answers to its moves. Its first move is a look at the names, and then
-/// it waits in a stage; where it has none, it is over.
+/// it waits in a stage.
 #[derive(Drop)]
 pub struct Course<V> {
-    pub(crate) stage: Option<Stage<V>>,
+    pub(crate) waiting: Waiting<V>,
     pub(crate) is_fresh: bool,
     pub(crate) noreply: bool,
 }
@@ -40,7 +50,7 @@ impl<V: TableView + Drop> Course<V> {
     {
         let noreply = setting.noreply;
         Course {
-            stage: Some(Stage::Names { plan, setting }),
+            waiting: Waiting::Names { plan, setting },
             is_fresh: true,
             noreply,
         }
@@ -51,14 +61,14 @@ impl<V: TableView + Drop> Course<V> {
     #[tactic(auto, using(crate::proofs::Moving::first_goes))]
     pub fn next(&mut self, alloc: Global, found: Option<Found<V>>) -> Result<Move, Memory>
         requires holds { HoldsEntries V.documents V.indexes V.entries }
-        ensures goes { Goes V.documents V.indexes V.entries result self.new.stage self.old.noreply
+        ensures goes { Goes V.documents V.indexes V.entries result self.new.waiting self.old.noreply
             (left_of V.documents V.indexes V.entries self.old
             (option_map (heard V.documents V.indexes) found)) }
         ensures quiet { self.new.noreply ≡ self.old.noreply }
     {
         match found {
             None => first(alloc, &mut self.is_fresh, self.noreply),
-            Some(found) => further(alloc, &mut self.stage, self.noreply, found),
+            Some(found) => further(alloc, &mut self.waiting, self.noreply, found),
         }
     }
 }
@@ -79,45 +89,45 @@ fn first(alloc: Global, is_fresh: &mut bool, noreply: bool) -> Result<Move, Memo
 #[tactic(auto, using(crate::proofs::Moving::goes_as))]
 fn further<V: TableView + Drop>(
     alloc: Global,
-    stage: &mut Option<Stage<V>>,
+    waiting: &mut Waiting<V>,
     noreply: bool,
     found: Found<V>,
 ) -> Result<Move, Memory>
     requires holds { HoldsEntries V.documents V.indexes V.entries }
-    ensures { Goes V.documents V.indexes V.entries result stage.new noreply
-        (left_in V.documents V.indexes V.entries stage.old (heard V.documents V.indexes found)) }
+    ensures { Goes V.documents V.indexes V.entries result waiting.new noreply
+        (left_in V.documents V.indexes V.entries waiting.old (heard V.documents V.indexes found)) }
 {
-    let waited = taken(stage);
+    let waited = taken(waiting);
     let turn = resumed(alloc, waited, found)?;
-    let next = moved(stage, noreply, turn);
+    let next = moved(waiting, noreply, turn);
     Ok(next)
 }
 
-fn taken<V: Drop>(stage: &mut Option<Stage<V>>) -> Option<Stage<V>>
-    ensures was { result ≡ stage.old }
-    ensures over { stage.new ≡ None }
+fn taken<V: Drop>(waiting: &mut Waiting<V>) -> Waiting<V>
+    ensures was { result ≡ waiting.old }
+    ensures over { waiting.new ≡ Over }
 {
-    mem::replace(stage, None)
+    mem::replace(waiting, Waiting::Over)
 }
 
-fn moved<V: TableView + Drop>(stage: &mut Option<Stage<V>>, noreply: bool, turn: Turn<V>) -> Move
-    ensures { Moved V.documents V.indexes V.entries result stage.new noreply
+fn moved<V: TableView + Drop>(waiting: &mut Waiting<V>, noreply: bool, turn: Turn<V>) -> Move
+    ensures { Moved V.documents V.indexes V.entries result waiting.new noreply
         (turn_of V.documents V.indexes V.entries turn) }
 {
     match turn {
-        Turn::Ask(question, next) => {
-            waits(stage, next);
+        Turn::Ask(question, stage) => {
+            waits(waiting, stage);
             Move::Ask(question)
         }
         Turn::Done(answered) => Move::Answer(quieted(noreply, answered)),
     }
 }
 
-// The stage that was there is let go here, and in no function that does more.
-fn waits<V: Drop>(stage: &mut Option<Stage<V>>, next: Stage<V>)
-    ensures { stage.new ≡ Some next }
+// What was waited for is let go here, and in no function that does more.
+fn waits<V: Drop>(waiting: &mut Waiting<V>, stage: Box<Stage<V>>)
+    ensures { waiting.new ≡ In stage }
 {
-    drop(mem::replace(stage, Some(next)));
+    drop(mem::replace(waiting, Waiting::In(stage)));
 }
 
 fn quieted(noreply: bool, answered: Answered) -> Answered
@@ -128,16 +138,17 @@ fn quieted(noreply: bool, answered: Answered) -> Answered
 
 fn resumed<V: TableView + Drop>(
     alloc: Global,
-    stage: Option<Stage<V>>,
+    waiting: Waiting<V>,
     found: Found<V>,
 ) -> Result<Turn<V>, Memory>
     requires holds { HoldsEntries V.documents V.indexes V.entries }
     ensures { Turns V.documents V.indexes V.entries result
-        (left_in V.documents V.indexes V.entries stage (heard V.documents V.indexes found)) }
+        (left_in V.documents V.indexes V.entries waiting (heard V.documents V.indexes found)) }
 {
-    match stage {
-        Some(stage) => resume(alloc, stage, found),
-        None => lost(alloc),
+    match waiting {
+        Waiting::Names { plan, setting } => named(alloc, plan, setting, found),
+        Waiting::In(stage) => resume(alloc, Box::into_inner(stage), found),
+        Waiting::Over => lost(alloc),
     }
 }
 
@@ -151,7 +162,6 @@ fn resume<V: TableView + Drop>(
         (rest_of V.documents V.indexes V.entries stage (heard V.documents V.indexes found)) }
 {
     match stage {
-        Stage::Names { plan, setting } => named(alloc, plan, setting, found),
         Stage::Clock(asked) => told(alloc, asked, found),
         Stage::Looks {
             asked,

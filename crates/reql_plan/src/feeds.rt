@@ -21,7 +21,7 @@ use reql_held::Held;
 use reql_law::{Cmd, Order, Reply, Said, Saved};
 use reql_moves::{Answered, Ask, Found};
 use reql_plan_law::Opening;
-use reql_stages::{Refusal, Stage, Turn, lost, points_of, refused};
+use reql_stages::{Refusal, Stage, Turn, asks, lost, points_of, refused};
 use reql_telling::{Open, first_items};
 use reql_term::{TableView, TermFields, Terms};
 use std::alloc::Global;
@@ -103,7 +103,8 @@ fn ask_feed<V: TableView + Drop>(
         points,
         cmd: Cmd::Subscribe(spec),
     };
-    Ok(Turn::Ask(
+    asks(
+        alloc,
         Ask::Run(opening.slot, order),
         Stage::Feeds {
             held: e,
@@ -112,7 +113,7 @@ fn ask_feed<V: TableView + Drop>(
             before,
             place,
         },
-    ))
+    )
 }
 
 fn feeds_told<V: TableView + Drop>(

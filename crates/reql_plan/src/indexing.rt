@@ -17,7 +17,7 @@ use reql_moves::{Answered, Ask, Found, Kept, index_there, kept_by};
 use reql_operand::no_index;
 use reql_plan_law::{Commanded, TableCmd};
 use reql_ready::{cmd_of, table_command};
-use reql_stages::{Stage, Turn, lost, points_of, refused};
+use reql_stages::{Stage, Turn, asks, lost, points_of, refused};
 use reql_telling::counted;
 use reql_term::{Op, TableView, TermFields, Terms};
 use std::alloc::Global;
@@ -52,10 +52,11 @@ fn ask_table<V: TableView + Drop>(
 {
     let points = points_of(alloc, &e.points)?;
     let cmd = cmd_of(copied(&command.cmd)?);
-    Ok(Turn::Ask(
+    asks(
+        alloc,
         Ask::Run(command.slot, Order { points, cmd }),
         Stage::Table { held: e, command },
-    ))
+    )
 }
 
 fn copied(command: &TableCmd) -> Result<TableCmd, Memory>

@@ -13,5 +13,5 @@ mod opened;
 mod opening;
 mod shown;
 
-pub use course::Course;
+pub use course::{Course, Waiting};
 pub use reql_moves::{Answered, Arm, Ask, CompileFault, Found, Item, Move, Plan, Setting, plan};

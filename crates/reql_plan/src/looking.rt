@@ -14,7 +14,7 @@ use reql_datum::{Memory, Seq};
 use reql_held::{Read, hold, with_view};
 use reql_law::Look;
 use reql_moves::{Ask, Found};
-use reql_stages::{Asked, Stage, Turn, dropped, lost};
+use reql_stages::{Asked, Stage, Turn, asks, dropped, lost};
 use reql_term::TableView;
 use std::alloc::Global;
 
@@ -33,7 +33,8 @@ pub(crate) fn reading<V: TableView + Drop>(
     match slots.at(place) {
         Some(slot) => {
             let slot = *slot;
-            Ok(Turn::Ask(
+            asks(
+                alloc,
                 Ask::Look(slot),
                 Stage::Looks {
                     asked,
@@ -42,7 +43,7 @@ pub(crate) fn reading<V: TableView + Drop>(
                     slots,
                     place: place + 1,
                 },
-            ))
+            )
         }
         None => opened(alloc, asked, read),
     }

@@ -2,12 +2,12 @@
 ghost use Rattle.std.specs.Prelude.{◌≡◌};
 ghost use Rattle.reql_term.specs.View.{form_of};
 ghost use Rattle.reql_naming.specs.Named.{resolved};
-ghost use Rattle.reql_plan_law.specs.Course.{course, names_heard, resolving, determined, at_moment, read, moment_heard, moment_by, moment_in_range};
-ghost use Rattle.reql_plan_law.specs.Request.{request, ends};
+ghost use Rattle.reql_plan_law.specs.Course.{names_heard, resolving, determined, at_moment, read, moment_heard, moment_by, moment_in_range};
+ghost use Rattle.reql_plan_law.specs.Request.{ends};
 ghost use Rattle.reql_datum.specs.Outcome.{Gives};
 ghost use Rattle.reql_moves.specs.Heard.{heard};
 ghost use Rattle.reql_stages.specs.Rest.{moment_rest};
-ghost use Rattle.reql_stages.specs.Turn.{turn_of, Turns};
+ghost use Rattle.reql_stages.specs.Turn.{Turns};
 
 use crate::looking::reading;
 use reql_catalog::Names;
@@ -17,16 +17,9 @@ use reql_moves::{Answered, Ask, Found};
 use reql_naming::resolved;
 use reql_plan_law::{Plan, Setting};
 use reql_reads::{has_now, leaks, read_slots, with_now};
-use reql_stages::{Asked, Stage, Turn, lost, refused};
+use reql_stages::{Asked, Stage, Turn, asks, lost, refused};
 use reql_term::{TableView, Term};
 use std::alloc::Global;
-
-// The first move.
-pub(crate) fn start<V: TableView + Drop>(plan: Plan, setting: Setting) -> Turn<V>
-    ensures { turn_of V.documents V.indexes V.entries result ≡ request (course plan setting) }
-{
-    Turn::Ask(Ask::LookNames, Stage::Names { plan, setting })
-}
 
 pub(crate) fn named<V: TableView + Drop>(
     alloc: Global,
@@ -95,7 +88,7 @@ fn timed<V: TableView + Drop>(alloc: Global, asked: Asked) -> Result<Turn<V>, Me
         (at_moment asked.plan asked.setting asked.names (form_of asked.term) ends) }
 {
     if has_now(&asked.term) {
-        return Ok(Turn::Ask(Ask::Tell, Stage::Clock(asked)));
+        return asks(alloc, Ask::Tell, Stage::Clock(asked));
     }
     begin_reading(alloc, asked)
 }

@@ -67,7 +67,7 @@ module _ {V : Type 0} (documents : V → List Document) (indexes : V → Indexes
 
   pub gone : (p p' : Plan) (s s' : Setting) (xs xs' : List (Found V × Unit {0})) (x : Found V) (was over : Bool) (old mid new : Course V) (h : Heard) (mv : Move)
       → was ≡ false → was ≡ over → p' ≡ p → s' ≡ s → xs' ≡ xs ++ (x, tt) ∷ [] → mid ≡ old → h ≡ heard_of (found_of documents indexes x)
-      → MayFollow documents indexes entries p s (heard_in documents indexes xs) over old → Moved documents indexes entries mv new.stage mid.noreply (left_in documents indexes entries mid.stage h) → new.noreply ≡ mid.noreply
+      → MayFollow documents indexes entries p s (heard_in documents indexes xs) over old → Moved documents indexes entries mv new.waiting mid.noreply (left_in documents indexes entries mid.waiting h) → new.noreply ≡ mid.noreply
       → Both mv new p' s' (heard_in documents indexes xs')
   gone p p' s s' xs xs' x was over old mid new h mv not_over is_over plan setting seen same heard follows moved quiet =
       let hs : List Heard = heard_in documents indexes xs in

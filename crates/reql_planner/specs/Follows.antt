@@ -49,7 +49,7 @@ next_code = Prim.hlevel (codes, plain_code, list_code, pairs_code, form_code)
 module _ {V : Type 0} (documents : V → List Document) (indexes : V → Indexes) (entries : V → Bytes → List Entry) where
   -- the course of a plan that has heard so much
   pub record Follows (p : Plan) (s : Setting) (hs : List Heard) (c : Course V) : Type 0 where
-    pub goes : GoesOn (request (course p s)) hs (λ h. left_in documents indexes entries c.stage h)
+    pub goes : GoesOn (request (course p s)) hs (λ h. left_in documents indexes entries c.waiting h)
     pub quiet : c.noreply ≡ s.noreply
 
   -- unless it is over
@@ -61,6 +61,6 @@ module _ {V : Type 0} (documents : V → List Document) (indexes : V → Indexes
   pub may_follow_prop : (p : Plan) (s : Setting) (hs : List Heard) (over : Bool) (c : Course V) → IsProp (MayFollow p s hs over c)
   may_follow_prop p s hs true c = Unit-prop
   may_follow_prop p s hs false c = λ a b i. record {
-    goes = λ h rest. Coded-set next_code (next (left_in documents indexes entries c.stage h) rest) (next (request (course p s)) (hs ++ h ∷ rest)) (a.goes h rest) (b.goes h rest) i;
+    goes = λ h rest. Coded-set next_code (next (left_in documents indexes entries c.waiting h) rest) (next (request (course p s)) (hs ++ h ∷ rest)) (a.goes h rest) (b.goes h rest) i;
     quiet = Coded-set coded_bool c.noreply s.noreply a.quiet b.quiet i;
   }

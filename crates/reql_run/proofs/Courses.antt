@@ -36,6 +36,7 @@ use Rattle.reql_stages.specs.contracts.stage.Rounds as rounds
 use Rattle.reql_stages.specs.contracts.stage.Then as then_of
 use Rattle.reql_stages.specs.contracts.stage.Refusal as refusal
 use Rattle.reql_stages.specs.contracts.stage.Stage as stage
+use Rattle.reql_plan.specs.contracts.course.Waiting as waiting
 use Rattle.reql_plan.specs.contracts.course.Course as course
 use Rattle.reql_planner.specs.contracts.course.QueryCourse as query
 
@@ -140,27 +141,24 @@ module _ (V : RattleType) where
       let h = held_send v in
       let r = read_send v in
       enum_send (shape (stage.the_type V)) (
-        search (sendable, crosses, plan_send) depth 12,
+        search (sendable, crosses, asked_send) depth 12,
         (
           search (sendable, crosses, asked_send) depth 12,
           (
-            search (sendable, crosses, asked_send) depth 12,
+            search (sendable, crosses, prepared_send, items_send, then_send) depth 12,
             (
-              search (sendable, crosses, prepared_send, items_send, then_send) depth 12,
+              search (sendable, crosses, then_send) depth 12,
               (
-                search (sendable, crosses, then_send) depth 12,
+                search (sendable, crosses, cat_cmd_send) depth 12,
                 (
                   search (sendable, crosses, cat_cmd_send) depth 12,
                   (
-                    search (sendable, crosses, cat_cmd_send) depth 12,
+                    search (sendable, crosses, commanded_send) depth 12,
                     (
-                      search (sendable, crosses, commanded_send) depth 12,
+                      search (sendable, crosses, feeding_send, opening_send, open_send) depth 12,
                       (
-                        search (sendable, crosses, feeding_send, opening_send, open_send) depth 12,
-                        (
-                          search (sendable, crosses, refusal_send, open_send) depth 12,
-                          tt,
-                        ),
+                        search (sendable, crosses, refusal_send, open_send) depth 12,
+                        tt,
                       ),
                     ),
                   ),
@@ -171,8 +169,11 @@ module _ (V : RattleType) where
         ),
       )
 
+  waiting_send : IsSend V → IsSend (waiting.the_field V).row
+  waiting_send v = let s = as_row_send (stage.the_field V) (stage_send v) in search (sendable, crosses, plan_send) depth 20
+
   course_send : IsSend V → IsSend (course.the_row V)
-  course_send v = let s = as_row_send (stage.the_field V) (stage_send v) in search (sendable, crosses) depth 20
+  course_send v = let w = as_row_send (waiting.the_field V) (waiting_send v) in search (sendable, crosses) depth 20
 
 module _ (V : RattleType) (g : Ghosts V.Denot) where
   pub query_send : IsSend V → IsSend (query.the_row V g)

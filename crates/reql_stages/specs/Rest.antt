@@ -30,6 +30,7 @@ use Rattle.reql_held.specs.Seen.{read, held}
 use Rattle.reql_feeding.specs.Seen.{asked}
 use Rattle.reql_stages.specs.declared.stage.Refusal.{Refusal}
 use Rattle.reql_stages.specs.declared.stage.Refusal.TheVariants as why
+use Rattle.reql_stages.specs.declared.stage.Rounds.{Rounds}
 use Rattle.reql_stages.specs.declared.stage.Stage.{Stage}
 use Rattle.reql_stages.specs.declared.stage.Stage.TheVariants as s
 use Rattle.reql_stages.specs.declared.stage.Then.{Then}
@@ -47,10 +48,14 @@ each_rest e ds f = c.each_of f (λ b. c.rounds e b.id b.writes nothing_done ds c
 abbrev pub counts_fit : law.Held → ℕ → Bool
 counts_fit e n = nat_le n e.batch || c.has_room e.setting
 
+-- what is left after the summary of one of many writes
+abbrev pub rest_of_rounds : law.Held → Rounds → Summary → Request
+rest_of_rounds e r s = c.round e r.id (plain r.element) (added r.total s) (drop r.next r.writes) (λ t. c.rounds e r.id r.writes t (drop r.place r.elements) counted)
+
 -- what is left after a write's summary
 abbrev pub rest_of_writes : law.Held → Then → Summary → Request
-rest_of_writes e then.Once s = counted s
-rest_of_writes e (then.Each r) s = c.round e r.id (plain r.element) (added r.total s) (drop r.next r.writes) (λ t. c.rounds e r.id r.writes t (drop r.place r.elements) counted)
+rest_of_writes e then.Once = counted
+rest_of_writes e (then.Each r) = rest_of_rounds e r.value
 
 -- a request at a moment
 abbrev pub moment_rest : Plan → Setting → Named → Form → ℤ → Request
@@ -82,7 +87,6 @@ closing_rest e why os = c.closing {A = m.Outcome} e why os ends
 
 module _ {V : Type 0} (documents : V → List Document) (indexes : V → Indexes) (entries : V → Bytes → List Entry) where
   abbrev pub rest_of : Stage V → m.Heard → Request
-  rest_of (s.Names p st) h = c.names_heard h (λ ns. c.resolving p st ns ends)
   rest_of (s.Clock a) h = c.moment_heard h (moment_rest a.plan a.setting a.names (form_of a.term))
   rest_of (s.Looks a r n slots place) h = c.seen_heard a.names (read documents indexes entries r) n h (λ t. c.reading a.plan a.setting a.names (form_of a.term) t (drop place slots) ends)
   rest_of (s.Keys e p made left th) h = let k = held documents indexes entries e in c.key_heard h (λ x. c.run_write k p (made ++ x ∷ []) left (rest_of_writes k th))

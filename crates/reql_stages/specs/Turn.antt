@@ -32,7 +32,7 @@ Stops Memory r = Unit {0}
 module _ {V : Type 0} (documents : V → List Document) (indexes : V → Indexes) (entries : V → Bytes → List Entry) where
   -- a turn, as the request that is left
   abbrev pub turn_of : Turn V → Request
-  turn_of (t.Ask q s) = asks (ask_of q) (λ h. rest_of documents indexes entries s h)
+  turn_of (t.Ask q s) = asks (ask_of q) (λ h. rest_of documents indexes entries s.value h)
   turn_of (t.Done o) = ends (outcome_of o)
 
   -- what a step gives: the turn that is this request, unless memory ran out

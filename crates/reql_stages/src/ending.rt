@@ -1,16 +1,31 @@
-// How a request ends by a fault.
+// How a request asks for a move, and how it ends by a fault.
 ghost use Rattle.reql_plan_law.specs.Held.{dropped};
 ghost use Rattle.reql_plan_law.specs.Move.{Outcome};
-ghost use Rattle.reql_plan_law.specs.Request.{Request, ends, refuse};
+ghost use Rattle.reql_moves.specs.Heard.{ask_of};
+ghost use Rattle.reql_plan_law.specs.Request.{Request, asks, ends, refuse};
+ghost use Rattle.reql_stages.specs.Rest.{rest_of};
 ghost use Rattle.reql_stages.specs.Turn.{Turns, Stops, lost_request};
 
-use crate::stage::Turn;
+use crate::stage::{Stage, Turn};
 use reql_catalog::Names;
 use reql_datum::{Fault, Memory, Name};
-use reql_moves::Answered;
+use reql_moves::{Answered, Ask};
 use reql_telling::dropped_of;
 use reql_term::TableView;
 use std::alloc::Global;
+
+/// Asks, and waits in this stage for the answer.
+pub fn asks<V: TableView + Drop>(
+    alloc: Global,
+    question: Ask,
+    stage: Stage<V>,
+) -> Result<Turn<V>, Memory>
+    ensures { Turns V.documents V.indexes V.entries result
+        (asks (ask_of question) (λ h. rest_of V.documents V.indexes V.entries stage h)) }
+{
+    let stage = Box::new(alloc, stage)?;
+    Ok(Turn::Ask(question, stage))
+}
 
 /// A fault is the answer, but for want of memory.
 pub fn refused<V: TableView + Drop>(why: Fault) -> Result<Turn<V>, Memory>

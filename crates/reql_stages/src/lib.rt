@@ -9,6 +9,6 @@ mod stage;
 mod writing;
 
 pub use each::for_each;
-pub use ending::{dropped, lost, refused};
+pub use ending::{asks, dropped, lost, refused};
 pub use stage::{Asked, Refusal, Rounds, Stage, Then, Turn};
 pub use writing::{points_of, rolled, write, wrote};

@@ -8,9 +8,8 @@ ghost use Rattle.reql_term.specs.View.{form_of};
 ghost use Rattle.reql_held.specs.Seen.{held};
 ghost use Rattle.reql_plan_law.specs.Course.{round, rounds, write};
 ghost use Rattle.reql_plan_law.specs.Request.{from};
-ghost use Rattle.reql_stages.specs.Rest.{rest_of_writes, counted};
+ghost use Rattle.reql_stages.specs.Rest.{rest_of_rounds, counted};
 ghost use Rattle.reql_stages.specs.Turn.{Turns};
-ghost use Rattle.reql_stages.specs.declared.stage.Then.TheVariants.{Each};
 
 use crate::ending::refused;
 use crate::stage::{Rounds, Then, Turn};
@@ -70,10 +69,10 @@ fn placed<V: TableView + Drop>(
 ) -> Result<Turn<V>, Memory>
     ensures { let k = held V.documents V.indexes V.entries e in
         (meant : Answer Form) → Gives form_of term meant → Turns V.documents V.indexes V.entries result
-        (from meant (λ f. write k f (rest_of_writes k (Each r)))) }
+        (from meant (λ f. write k f (rest_of_rounds k r))) }
 {
     match term {
-        Ok(term) => write(alloc, e, &term, Then::Each(r)),
+        Ok(term) => write(alloc, e, &term, Then::Each(Box::new(alloc, r)?)),
         Err(why) => refused(why),
     }
 }

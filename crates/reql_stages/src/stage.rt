@@ -34,7 +34,7 @@ pub struct Rounds {
 #[derive(Drop)]
 pub enum Then {
     Once,
-    Each(Rounds),
+    Each(Box<Rounds>),
 }
 
 /// Why a feed isn't opened.
@@ -47,13 +47,9 @@ pub enum Refusal {
     Dropped(u32),
 }
 
-/// Where a request waits for an answer.
+/// Where a request whose names are resolved waits for an answer.
 #[derive(Drop)]
 pub enum Stage<V> {
-    Names {
-        plan: Plan,
-        setting: Setting,
-    },
     Clock(Asked),
     Looks {
         asked: Asked,
@@ -104,9 +100,10 @@ pub enum Stage<V> {
     },
 }
 
-/// A request's turn: it asks, and waits where it goes on, or it is answered.
+/// A request's turn: it asks, and waits where it goes on, or it is answered. The stage stands
+/// elsewhere in memory, since a turn is handed up through many calls.
 #[derive(Drop)]
 pub enum Turn<V> {
-    Ask(Ask, Stage<V>),
+    Ask(Ask, Box<Stage<V>>),
     Done(Answered),
 }

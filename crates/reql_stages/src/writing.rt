@@ -15,7 +15,7 @@ ghost use Rattle.reql_moves.specs.Heard.{heard, outcome_of};
 ghost use Rattle.reql_stages.specs.Rest.{rest_of_writes, counted};
 ghost use Rattle.reql_stages.specs.Turn.{turn_of, Turns, lost_request};
 
-use crate::ending::{lost, refused};
+use crate::ending::{asks, lost, refused};
 use crate::rounds::round;
 use crate::stage::{Rounds, Stage, Then, Turn};
 use reql_datum::{Datum, Fault, Items, Memory, Name, Point, Seq};
@@ -75,7 +75,8 @@ fn run_write<V: TableView + Drop>(
         (run_write k ready made left (rest_of_writes k then)) }
 {
     if left > 0 {
-        return Ok(Turn::Ask(
+        return asks(
+            alloc,
             Ask::Roll,
             Stage::Keys {
                 held: e,
@@ -84,7 +85,7 @@ fn run_write<V: TableView + Drop>(
                 left: left - 1,
                 then,
             },
-        ));
+        );
     }
     let points = points_of(alloc, &e.points)?;
     let Prepared {
@@ -96,14 +97,15 @@ fn run_write<V: TableView + Drop>(
         points,
         cmd: with_keys(made, cmd),
     };
-    Ok(Turn::Ask(
+    asks(
+        alloc,
         Ask::Run(slot, order),
         Stage::Wrote {
             held: e,
             slot,
             then,
         },
-    ))
+    )
 }
 
 /// The points that a command is run at, once more.
@@ -349,7 +351,7 @@ fn after<V: TableView + Drop>(
                 elements,
                 place,
                 total: before,
-            } = rounds;
+            } = Box::into_inner(rounds);
             let total = added(alloc, before, summary)?;
             round(
                 alloc,
