@@ -58,8 +58,8 @@ fn serve<R: Wait, L: Link + Drop, D: Dice + Drop, T: Clock + Drop>(
 /// whatever its input, stands beside what this one did: its input is handled in order, every whole frame of it; a valid input,
 /// which is nothing or a greeting that is accepted and whole frames within the limit, is handled to its last frame, and the
 /// status is 0, unless a receive or a send failed, it took more turns than there are, or memory was wanted; every request is
-/// answered by its plan, or by the first of its refusals; and every feed that it opened follows something, so that none shows
-/// nothing for ever, and folds to the value of its query.
+/// answered by its plan, or by the first of its refusals; and every feed that it opened follows a document, a range or the
+/// first of an order, so that none stays silent since its term could not be read, and folds to the value of its query.
 pub fn run<R: Wait, L: Link + Drop, D: Dice + Drop, T: Clock + Drop>(
     rt: &R,
     alloc: Global,

@@ -9,8 +9,8 @@ pub fn plans_are_told()
     ensures batches { BatchesAgree }
 {}
 
-/// Every feed that a session opens for a body that it was sent follows something, whatever the body is and whatever the
-/// moves of its plan are answered: no request is answered with a feed that shows nothing for ever.
+/// Every feed that a session opens for a body that it was sent follows a document, a range or the first of an order,
+/// whatever the body is and whatever the moves of its plan are answered: none stays silent since its term could not be read.
 pub fn feeds_are_read()
     ensures { AllFeedsAreRead }
 {}

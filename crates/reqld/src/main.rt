@@ -25,7 +25,7 @@ usage:
   reqld load SEED SIZE
       serves four sessions of its own at once, which write SIZE documents, 1 to 20000, and follow them
       with feeds, and prints how many documents and changes there were, how many feeds, and how many
-      of these were told what their queries came to; SEED, 0 to 1000000, varies the documents
+      of these fold to what their queries give; SEED, 0 to 1000000, varies the documents
   reqld --help      says this
   reqld --version   says which version this is
 
