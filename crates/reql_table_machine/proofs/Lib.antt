@@ -1,6 +1,7 @@
 pub mod Items
 pub mod Tracking
 pub mod Reach
+pub mod Skipping
 pub mod Holding
 pub mod Folding
 pub mod Tables

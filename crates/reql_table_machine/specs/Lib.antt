@@ -2,5 +2,6 @@ pub mod Feeding
 pub mod Feeds
 pub mod Fed
 pub mod Laws
+pub mod Skips
 pub mod Sample
 pub mod Worked

@@ -1,6 +1,7 @@
 // The laws of a table and its feeds, for any kinds of writes and feeds.
 ghost use Rattle.reql_table_machine.specs.Feeding.{Feeding, Folds};
 ghost use Rattle.reql_table_machine.specs.Laws.{RefusedStays, DocsAtStamp, LaterDocs, FeedsFold};
+ghost use Rattle.reql_table_machine.specs.Skips.{OldestAreSkipped, SkipsCount, NothingIsSkipped, SkipsOfFullQueues, SkipsBetweenTakes};
 ghost use Rattle.reql_table_machine.specs.Sample.{one_number, Good, May};
 
 /// What a table's writes and feeds mean.
@@ -43,6 +44,17 @@ pub fn machine_laws<F: Meaning>()
 /// Where the laws of its kinds of feed hold, each feed that a user opened along a history folds to its query.
 pub fn feeds_fold<F: Meaning>()
     ensures { FeedsFold F.feeding F.good F.may }
+{}
+
+/// A skip comes only from a full queue, and counts what was dropped: as many of the oldest items as
+/// have no place, up to the end of the count, and the last of them is told. Along any history a feed
+/// that has a skip to tell has a full queue, and nothing comes to a feed but what changes append.
+pub fn skips_of_full_queues<F: Meaning>()
+    ensures oldest { OldestAreSkipped F.feeding }
+    ensures counted { SkipsCount F.feeding }
+    ensures room { NothingIsSkipped F.feeding }
+    ensures full { SkipsOfFullQueues F.feeding }
+    ensures between { SkipsBetweenTakes F.feeding }
 {}
 
 /// The laws of a kind of feed can be met: the feeds of a table of one number meet them.
