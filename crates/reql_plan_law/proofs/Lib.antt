@@ -9,3 +9,4 @@ pub mod Planned
 pub mod Closing
 pub mod Carried
 pub mod Opens
+pub mod Unsent

@@ -114,3 +114,7 @@ pub record PlansMindEachStep : Type 0 where
       Comes p s hs opened → plan_next p s hs ≡ answered (sequence ds) → opened ≡ []
   -- where no answer is wanted there is none
   pub quiet : (p : Plan) (s : Setting) (hs : List Heard) (o : Outcome) → s.noreply ≡ true → plan_next p s hs ≡ answered o → o ≡ unsent
+
+-- and only there: a request that wants an answer has one, whatever its moves are answered
+abbrev pub UnsentOnlyWithNoreply : Type 0
+UnsentOnlyWithNoreply = (p : Plan) (s : Setting) (hs : List Heard) → plan_next p s hs ≡ answered unsent → s.noreply ≡ true

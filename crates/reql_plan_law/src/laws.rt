@@ -1,6 +1,6 @@
 // Laws of plans.
 ghost use Rattle.reql_plan_law.specs.Follows.{FeedsAreRead, LimitsAreRead, PointsAreRead, RangesAreRead};
-ghost use Rattle.reql_plan_law.specs.Minds.{PlansMind, PlansMindEachStep};
+ghost use Rattle.reql_plan_law.specs.Minds.{PlansMind, PlansMindEachStep, UnsentOnlyWithNoreply};
 ghost use Rattle.reql_plan_law.specs.Opens.{AskedFeedsAreRead, PlannedFeedsAreRead};
 
 /// A plan takes nothing of a feed and closes no feed but those that it opened and that are open still; where it ends with
@@ -14,6 +14,12 @@ pub fn plans_mind()
 #[tactic(auto, using(crate::proofs::Following::plans_mind_each_step))]
 pub fn plans_mind_each_step()
     ensures { PlansMindEachStep }
+{}
+
+/// A request that wants an answer is never left without one, whatever its moves are answered: that nothing is sent is what
+/// a plan ends with only where its request said so.
+pub fn unsent_only_with_noreply()
+    ensures { UnsentOnlyWithNoreply }
 {}
 
 /// A feed that CHANGES asks for, of a range, of a document by GET, or of the first of an order by an index, follows something

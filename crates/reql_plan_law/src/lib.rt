@@ -5,6 +5,9 @@ mod laws;
 mod parts;
 mod rows;
 
-pub use laws::{feeds_are_read, planned_feeds_are_read, plans_mind, plans_mind_each_step};
+pub use laws::{
+    feeds_are_read, planned_feeds_are_read, plans_mind, plans_mind_each_step,
+    unsent_only_with_noreply,
+};
 pub use parts::{Commanded, Opening, Plan, Prepared, Setting, TableCmd};
 pub use rows::worked_rows;
