@@ -275,7 +275,7 @@ leak_free : (b : Bool) (f g : Form) → unless_leaks b f ≡ Ok g → (b ≡ fal
 leak_free true f g h = absurd (cc (h))
 leak_free false f g h = (refl, same_ok f g h)
 
-carried_sound : (ns : Named) (db : Bytes) (moment : Option ℤ) (f g : Form) → is_asked f ≡ true → plan_fault f ≡ None
+pub carried_sound : (ns : Named) (db : Bytes) (moment : Option ℤ) (f g : Form) → is_asked f ≡ true → plan_fault f ≡ None
     → carried_as ns db moment f ≡ Ok g → Sound g
 carried_sound ns db moment f g asked none h =
     let a = then_ok (resolved ns db f) (λ x. unless_leaks (leaks false x) x >>= at_time moment) g h in

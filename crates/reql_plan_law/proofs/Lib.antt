@@ -10,3 +10,4 @@ pub mod Closing
 pub mod Carried
 pub mod Opens
 pub mod Unsent
+pub mod Theirs

@@ -32,7 +32,7 @@ range_by op.Limit fs ms s = absurd (let e : shapes.Limit ≡ shapes.Range = shap
 range_by op.Union fs ms s = absurd (let e : shapes.United ≡ shapes.Range = shape_is shapes.United shapes.Range (are_arms fs) s in cc)
 range_by o fs ms s = shape_on shapes.Range shapes.Range (is_range (operation o fs ms)) s
 
-range_is : (f : Form) → shape f ≡ Some shapes.Range → is_range f ≡ true
+pub range_is : (f : Form) → shape f ≡ Some shapes.Range → is_range f ≡ true
 range_is (slot n) s = refl
 range_is (operation o fs ms) s = range_by o fs ms s
 range_is (literal d) s = absurd (cc (s))
@@ -50,7 +50,7 @@ arms_by op.Get fs ms s = absurd (let e : shapes.Point ≡ shapes.United = shape_
 arms_by op.Limit fs ms s = absurd (let e : shapes.Limit ≡ shapes.United = shape_is shapes.Limit shapes.United (is_order_at (first fs)) s in cc)
 arms_by o fs ms s = absurd (let e : shapes.Range ≡ shapes.United = shape_is shapes.Range shapes.United (is_range (operation o fs ms)) s in cc)
 
-arms_are : (f : Form) → shape f ≡ Some shapes.United → are_ranges (args_of f) ≡ true
+pub arms_are : (f : Form) → shape f ≡ Some shapes.United → are_ranges (args_of f) ≡ true
 arms_are (operation o fs ms) s = arms_by o fs ms s
 arms_are (slot n) s = absurd (cc (s))
 arms_are (literal d) s = absurd (cc (s))
@@ -60,7 +60,7 @@ arms_are (variable id) s = absurd (cc (s))
 arms_are implicit s = absurd (cc (s))
 arms_are (function ids body) s = absurd (cc (s))
 
-args_planned : (f : Form) → is_planned f ≡ true → are_planned (args_of f) ≡ true
+pub args_planned : (f : Form) → is_planned f ≡ true → are_planned (args_of f) ≡ true
 args_planned (operation o fs ms) p = (planned_fits o fs ms p).arguments
 args_planned (slot n) p = refl
 args_planned (literal d) p = refl
@@ -85,7 +85,7 @@ module _ (e : Held) (t : Told) where
       let rest = then_ok (range_openings e t b.0) (λ rest. Ok (o.0 ∷ rest)) os o.2 in
       subst AllRead (same_ok (o.0 ∷ rest.0) os rest.2) (ranges_are_read e t f a.0 o.0 q.0 s.0 a.1 o.1, ranges_read fs b.0 rest.0 q.1 s.1 b.1 rest.1)
 
-  one_settled : (f : Form) (gs : List Form) → (feed_settled e f >>= λ g. Ok (g ∷ [])) ≡ Ok gs → (g : Form) × (feed_settled e f ≡ Ok g) × (g ∷ [] ≡ gs)
+  pub one_settled : (f : Form) (gs : List Form) → (feed_settled e f >>= λ g. Ok (g ∷ [])) ≡ Ok gs → (g : Form) × (feed_settled e f ≡ Ok g) × (g ∷ [] ≡ gs)
   one_settled f gs h =
       let a = then_ok (feed_settled e f) (λ g. Ok (g ∷ [])) gs h in
       (a.0, a.1, same_ok (a.0 ∷ []) gs a.2)
@@ -112,19 +112,19 @@ module _ (e : Held) (t : Told) where
 
 -- ---- the feeds of a request
 module _ (e : Held) (ms : NamedForms) where
-  abbrev opened : Shape → List Form → Told → Answer Feeding
+  abbrev pub opened : Shape → List Form → Told → Answer Feeding
   opened s gs t = openings e t s gs >>= λ os. Ok (record { openings = os; note = note_of s; told = t })
 
-  abbrev options_told : Shape → List Form → Options → Answer Feeding
+  abbrev pub options_told : Shape → List Form → Options → Answer Feeding
   options_told s gs os = told ms os >>= opened s gs
 
-  abbrev all_followed : Shape → List Form → Answer Feeding
+  abbrev pub all_followed : Shape → List Form → Answer Feeding
   all_followed s gs = options_given e.world ms >>= options_told s gs
 
-  abbrev shaped : Form → Shape → Answer Feeding
+  abbrev pub shaped : Form → Shape → Answer Feeding
   shaped f s = followed e s f >>= all_followed s
 
-  shape_is_there : (x : Option Shape) (s : Shape) → shape_there x ≡ Ok s → x ≡ Some s
+  pub shape_is_there : (x : Option Shape) (s : Shape) → shape_there x ≡ Ok s → x ≡ Some s
   shape_is_there None s h = absurd (cc (h))
   shape_is_there (Some r) s h = ap (λ y. Some y) (same_ok r s h)
 

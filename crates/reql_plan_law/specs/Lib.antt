@@ -14,3 +14,4 @@ pub mod Worked
 pub mod Minds
 pub mod Follows
 pub mod Opens
+pub mod Theirs

@@ -1,0 +1,8 @@
+use Rattle.reql_plan_law.proofs.Theirs.{openings_are_theirs, planned_openings_are_theirs}
+use Rattle.reql_plan_law.proofs.laws.openings_are_theirs.Goals as goal
+
+pub returns-clause-changes : goal.returns-clause-changes
+returns-clause-changes c = openings_are_theirs
+
+pub returns-clause-planned : goal.returns-clause-planned
+returns-clause-planned c = planned_openings_are_theirs
