@@ -1,5 +1,6 @@
 -- That each feed of a request is its own term's.
 use Rattle.std.proofs.Common.{◌≡◌, ℕ, List, [], ◌∷◌, ◌++◌, Bool, true, false, not, Option, Some, None, Ok, refl, sym, ap, subst, ◌∙◌, ◌⊎◌, inl, inr}
+use Rattle.std.specs.List.{AllByRecursion}
 use Rattle.std.specs.Prelude.{codes}
 use Rattle.reql_datum.specs.Answer.{Answer, ◌>>=◌}
 use Rattle.reql_term.specs.Form.{Form, literal, several, keyed, variable, implicit, function, slot, operation, Forms, no_forms, form, NamedForms, forms_of, named_of}
@@ -12,6 +13,7 @@ use Rattle.reql_faults.specs.Places.{first, second, option, text_at}
 use Rattle.reql_faults.specs.Shapes.{part_of, is_table_part, is_table, is_table_at, range_by, is_range, is_first_range, differ, source_by, is_source, order_name, order_over, order_by, is_order, is_order_at, are_ranges, are_arms, shape_if, shape_by, shape}
 use Rattle.reql_faults.specs.declared.shape.Shape.{Shape}
 use Rattle.reql_faults.specs.declared.shape.Shape.TheVariants as shapes
+use Rattle.reql_catalog.specs.Catalog.{Named}
 use Rattle.reql_value.specs.World.{World}
 use Rattle.reql_write_law.specs.Selecting.{slots, slots_of, slots_named}
 use Rattle.reql_feed_law.specs.declared.kind.FeedKind.{FeedKind}
@@ -21,15 +23,16 @@ use Rattle.reql_law.specs.Followed as law
 use Rattle.reql_law.proofs.Closed.{then_ok, same_ok}
 use Rattle.reql_law.proofs.Reading.{both}
 use Rattle.reql_plan_law.specs.declared.parts.Opening.{Opening}
-use Rattle.reql_plan_law.specs.Feeding.{Told, Feeding, row_test, count_in, name_of_order, between_name, agrees, single, limit_index, opening, openings, range_opening, range_openings, limit_opening, feed_settled, all_settled, followed, shape_there, note_of, told}
+use Rattle.reql_plan_law.specs.Feeding.{Told, Feeding, row_test, count_in, name_of_order, between_name, agrees, single, limit_index, opening, openings, range_opening, range_openings, limit_opening, feed_settled, all_settled, followed, shape_there, note_of, told, feeding}
 use Rattle.reql_plan_law.specs.Follows.{is_planned, are_planned}
 use Rattle.reql_plan_law.specs.Held.{Held, key_of}
 use Rattle.reql_plan_law.specs.Reads.{args_of, options_of}
 use Rattle.reql_plan_law.specs.Settled.{there, settled, first_settled, arguments, named_arguments, keeps_argument, keeps_option, options_given}
-use Rattle.reql_plan_law.specs.Theirs.{table_of, first_table, terms_as, terms_of, kind_as, index_as, IsItsOwn, AreTheirOwn, AreOf, OpeningsAreTheirs, PlannedOpeningsAreTheirs}
+use Rattle.reql_plan_law.specs.Theirs.{table_of, first_table, terms_as, terms_of, kind_as, index_as, IsItsOwn, AreTheirOwn, AreOf, IsOfItsTable, OpeningsAreTheirs, PlannedOpeningsAreTheirs, AskedOpeningsAreTheirs}
 use Rattle.reql_plan_law.proofs.Carried.{carried_sound}
 use Rattle.reql_plan_law.proofs.Follows.{planned_fits, shape_on, shape_is}
 use Rattle.reql_plan_law.proofs.Opened.{range_is, arms_are, args_planned, one_settled, opened, options_told, all_followed, shaped, shape_is_there}
+use Rattle.reql_plan_law.proofs.Opens.{always_asked}
 
 -- ---- a settled term is on the same table
 mutual
@@ -343,3 +346,24 @@ openings_are_theirs e no_forms ms x p h = absurd (cc (h))
 pub planned_openings_are_theirs : PlannedOpeningsAreTheirs
 planned_openings_are_theirs ns db moment f fs ms e x asked none h opens =
     openings_are_theirs e fs ms x (carried_sound ns db moment f (operation op.Changes fs ms) asked none h) opens
+
+-- ---- and what a plan asks a slot for
+abbrev OfItsTable : Named → Opening → Type 0
+OfItsTable known o = IsOfItsTable known o.slot o.spec
+
+own_table : (e : Held) (t : Told) (f : Form) (o : Opening) → IsItsOwn e t f o → OfItsTable e.names o
+own_table e t f o is = record { table = same_table e.world f o.spec.shape is.term ∙ is.table; key = is.key }
+
+all_own : (e : Held) (t : Told) (fs : List Form) (os : List Opening) → AreTheirOwn e t fs os → AllByRecursion (OfItsTable e.names) os
+all_own e t [] [] is = tt
+all_own e t (f ∷ fs) (o ∷ os) is = (own_table e t f o is.0, all_own e t fs os is.1)
+all_own e t [] (o ∷ os) is = absurd is
+all_own e t (f ∷ fs) [] is = absurd is
+
+of_their_tables : (known : Named) (e : Held) (fs : Forms) (ms : NamedForms) (x : Feeding) → e.names ≡ known → are_planned fs ≡ true → feeding e fs ms ≡ Ok x
+    → AllByRecursion (λ o. IsOfItsTable known o.slot o.spec) x.openings
+of_their_tables known e fs ms x own planned opens =
+    subst (λ ns. AllByRecursion (OfItsTable ns) x.openings) own (all_own e x.told (terms_of fs) x.openings (openings_are_theirs e fs ms x planned opens).openings)
+
+pub asked_openings_are_theirs : AskedOpeningsAreTheirs
+asked_openings_are_theirs p s known hs n order spec asked none h is = always_asked known (IsOfItsTable known) (of_their_tables known) p s hs n order spec asked none h is

@@ -14,12 +14,20 @@ use Rattle.reql_catalog.specs.Catalog.{Named}
 use Rattle.reql_feed_law.specs.declared.kind.FeedKind.{FeedKind}
 use Rattle.reql_feed_law.specs.declared.kind.FeedKind.TheVariants as kinds
 use Rattle.reql_law.specs.Followed.{arguments, shape_index}
+use Rattle.reql_law.specs.declared.command.Cmd.TheVariants as cmds
+use Rattle.reql_law.specs.declared.command.FeedSpec.{FeedSpec}
+use Rattle.reql_law.specs.declared.command.Order.{Order}
 use Rattle.reql_plan_law.specs.declared.parts.Opening.{Opening}
+use Rattle.reql_plan_law.specs.declared.parts.Plan.{Plan}
+use Rattle.reql_plan_law.specs.declared.parts.Setting.{Setting}
+use Rattle.reql_plan_law.specs.Course.{plan_next}
 use Rattle.reql_plan_law.specs.Feeding.{Told, Feeding, count_in, name_of_order, feed_settled, feeding, told}
 use Rattle.reql_plan_law.specs.Follows.{are_planned}
 use Rattle.reql_plan_law.specs.Held.{Held, key_of}
+use Rattle.reql_plan_law.specs.Move.{Heard, names, run}
 use Rattle.reql_plan_law.specs.Opens.{is_asked, carried_as}
 use Rattle.reql_plan_law.specs.Reads.{args_of}
+use Rattle.reql_plan_law.specs.Request.{moves}
 use Rattle.reql_plan_law.specs.Settled.{there, options_given}
 
 -- the table that a term is on: each operator is on that of its first argument
@@ -91,3 +99,13 @@ OpeningsAreTheirs = (e : Held) (fs : Forms) (ms : NamedForms) (x : Feeding) → 
 abbrev pub PlannedOpeningsAreTheirs : Type 0
 PlannedOpeningsAreTheirs = (ns : Named) (db : Bytes) (moment : Option ℤ) (f : Form) (fs : Forms) (ms : NamedForms) (e : Held) (x : Feeding)
     → is_asked f ≡ true → plan_fault f ≡ None → carried_as ns db moment f ≡ Ok (operation op.Changes fs ms) → feeding e fs ms ≡ Ok x → AreOf e fs ms x
+
+-- a feed that is asked for on a slot follows a term on the slot's table, by the name that the names have for its key field
+pub record IsOfItsTable (known : Named) (n : ℕ) (spec : FeedSpec) : Type 0 where
+  pub table : table_of spec.shape ≡ Some n
+  pub key : spec.key ≡ key_of known n
+
+-- and so every feed that a plan asks a slot for, whatever it heard before, by the names that it heard first
+abbrev pub AskedOpeningsAreTheirs : Type 0
+AskedOpeningsAreTheirs = (p : Plan) (s : Setting) (known : Named) (hs : List Heard) (n : ℕ) (order : Order) (spec : FeedSpec) → is_asked p.term ≡ true → plan_fault p.term ≡ None
+    → plan_next p s (names known ∷ hs) ≡ moves (run n order) → order.cmd ≡ cmds.Subscribe spec → IsOfItsTable known n spec

@@ -2,7 +2,7 @@
 ghost use Rattle.reql_plan_law.specs.Follows.{FeedsAreRead, LimitsAreRead, PointsAreRead, RangesAreRead};
 ghost use Rattle.reql_plan_law.specs.Minds.{PlansMind, PlansMindEachStep, UnsentOnlyWithNoreply};
 ghost use Rattle.reql_plan_law.specs.Opens.{AskedFeedsAreRead, PlannedFeedsAreRead};
-ghost use Rattle.reql_plan_law.specs.Theirs.{OpeningsAreTheirs, PlannedOpeningsAreTheirs};
+ghost use Rattle.reql_plan_law.specs.Theirs.{AskedOpeningsAreTheirs, OpeningsAreTheirs, PlannedOpeningsAreTheirs};
 
 /// A plan takes nothing of a feed and closes no feed but those that it opened and that are open still; where it ends with
 /// a feed, the arms are just those that are open, each once, and there is one; where it ends with a sequence none is open.
@@ -45,8 +45,10 @@ pub fn planned_feeds_are_read()
 /// is asked of the table that its own term is on, by the name of that table's key field, and follows that term with the data
 /// of its arguments in their places: GET as one document, a range as a range by the index that it names, LIMIT of an order as
 /// so many first ones by the order's index. All are told by the options of CHANGES. So it is of every request for CHANGES
-/// whose term has no fault and stands as every term that is read.
+/// whose term has no fault and stands as every term that is read; and every feed that a plan asks a slot for, whatever its
+/// moves are answered, follows a term on the slot's own table, by the key field that the names it heard have for the slot.
 pub fn openings_are_theirs()
     ensures changes { OpeningsAreTheirs }
     ensures planned { PlannedOpeningsAreTheirs }
+    ensures asked { AskedOpeningsAreTheirs }
 {}
