@@ -11,3 +11,5 @@ pub mod Carried
 pub mod Opens
 pub mod Unsent
 pub mod Theirs
+pub mod Settling
+pub mod Stacked

@@ -106,7 +106,7 @@ first_table_stands : (fs : Forms) → is_table_at (first fs) ≡ true → are_pl
 first_table_stands no_forms t p = absurd (cc (t))
 first_table_stands (form f fs) t p = table_stands f t (both (is_planned f) (are_planned fs) p).0
 
-on_first : (o : Op) (on_table on_range : Bool) → is_table_part (part_of o) ≡ false → range_by (part_of o) on_table on_range ≡ true → (on_table ≡ true) ⊎ (on_range ≡ true)
+pub on_first : (o : Op) (on_table on_range : Bool) → is_table_part (part_of o) ≡ false → range_by (part_of o) on_table on_range ≡ true → (on_table ≡ true) ⊎ (on_range ≡ true)
 on_first op.Table t r k h = absurd (cc (k))
 on_first op.Between t r k h = inl h
 on_first op.GetAll t r k h = inl h
@@ -139,7 +139,7 @@ mutual
   first_range_stands no_forms r p = absurd (cc (r))
   first_range_stands (form f fs) r p = range_stands f r (both (is_planned f) (are_planned fs) p).0
 
-source_on : (o : Op) (name : Option (List ℕ)) (f index : Option Form) → is_table_part (part_of o) ≡ false → source_by (part_of o) name f index ≡ true → is_table_at f ≡ true
+pub source_on : (o : Op) (name : Option (List ℕ)) (f index : Option Form) → is_table_part (part_of o) ≡ false → source_by (part_of o) name f index ≡ true → is_table_at f ≡ true
 source_on op.Table name f index k h = absurd (cc (k))
 source_on op.Between name f index k h = (both (is_table_at f) (not (differ name (text_at index))) h).0
 source_on o name f index k h = absurd (cc (h))
@@ -162,7 +162,7 @@ over_stands (Some index) no_forms o p = absurd (cc (o))
 over_stands (Some index) (form f no_forms) o p = source_stands (order_name index) f o (both (is_planned f) true p).0
 over_stands (Some index) (form f (form g gs)) o p = absurd (cc (o))
 
-ordered_over : (o : Op) (fs : Forms) (ms : NamedForms) → order_by (part_of o) fs ms ≡ true → order_over (option (codes "index") ms) fs ≡ true
+pub ordered_over : (o : Op) (fs : Forms) (ms : NamedForms) → order_by (part_of o) fs ms ≡ true → order_over (option (codes "index") ms) fs ≡ true
 ordered_over op.OrderBy fs ms h = h
 ordered_over o fs ms h = absurd (cc (h))
 
@@ -180,13 +180,13 @@ first_order_stands : (fs : Forms) → is_order_at (first fs) ≡ true → are_pl
 first_order_stands no_forms h p = absurd (cc (h))
 first_order_stands (form f fs) h p = order_stands f h (both (is_planned f) (are_planned fs) p).0
 
-point_on : (o : Op) (fs : Forms) (range : Bool) → shape_by (part_of o) fs range ≡ Some shapes.Point → is_table_at (first fs) ≡ true
+pub point_on : (o : Op) (fs : Forms) (range : Bool) → shape_by (part_of o) fs range ≡ Some shapes.Point → is_table_at (first fs) ≡ true
 point_on op.Get fs range s = shape_on shapes.Point shapes.Point (is_table_at (first fs)) s
 point_on op.Limit fs range s = absurd (let e : shapes.Limit ≡ shapes.Point = shape_is shapes.Limit shapes.Point (is_order_at (first fs)) s in cc)
 point_on op.Union fs range s = absurd (let e : shapes.United ≡ shapes.Point = shape_is shapes.United shapes.Point (are_arms fs) s in cc)
 point_on o fs range s = absurd (let e : shapes.Range ≡ shapes.Point = shape_is shapes.Range shapes.Point range s in cc)
 
-limit_on : (o : Op) (fs : Forms) (range : Bool) → shape_by (part_of o) fs range ≡ Some shapes.Limit → is_order_at (first fs) ≡ true
+pub limit_on : (o : Op) (fs : Forms) (range : Bool) → shape_by (part_of o) fs range ≡ Some shapes.Limit → is_order_at (first fs) ≡ true
 limit_on op.Limit fs range s = shape_on shapes.Limit shapes.Limit (is_order_at (first fs)) s
 limit_on op.Get fs range s = absurd (let e : shapes.Point ≡ shapes.Limit = shape_is shapes.Point shapes.Limit (is_table_at (first fs)) s in cc)
 limit_on op.Union fs range s = absurd (let e : shapes.United ≡ shapes.Limit = shape_is shapes.United shapes.Limit (are_arms fs) s in cc)

@@ -15,3 +15,4 @@ pub mod Minds
 pub mod Follows
 pub mod Opens
 pub mod Theirs
+pub mod Settling

@@ -2,6 +2,7 @@
 ghost use Rattle.reql_plan_law.specs.Follows.{FeedsAreRead, LimitsAreRead, PointsAreRead, RangesAreRead};
 ghost use Rattle.reql_plan_law.specs.Minds.{PlansMind, PlansMindEachStep, UnsentOnlyWithNoreply};
 ghost use Rattle.reql_plan_law.specs.Opens.{AskedFeedsAreRead, PlannedFeedsAreRead};
+ghost use Rattle.reql_plan_law.specs.Settling.{FeedsMeanTheSame, SettledMeansTheSame};
 ghost use Rattle.reql_plan_law.specs.Theirs.{AskedOpeningsAreTheirs, OpeningsAreTheirs, PlannedOpeningsAreTheirs};
 
 /// A plan takes nothing of a feed and closes no feed but those that it opened and that are open still; where it ends with
@@ -51,4 +52,12 @@ pub fn openings_are_theirs()
     ensures changes { OpeningsAreTheirs }
     ensures planned { PlannedOpeningsAreTheirs }
     ensures asked { AskedOpeningsAreTheirs }
+{}
+
+/// What is kept of a feed's term, with the data of its arguments in their places, means what the term does, in every world in
+/// which each argument gives just the datum that was put in its place. A selected row is no such: its document alone is put
+/// there, so that an ERROR of it, as the default of FILTER, is told as one of an object and no longer as one of a selection.
+pub fn settled_means_the_same()
+    ensures terms { SettledMeansTheSame }
+    ensures feeds { FeedsMeanTheSame }
 {}
