@@ -1,5 +1,5 @@
 -- What a session needs of plans for its feeds: a plan takes from none, closes only what it opened, tells of all these where it ends
--- with a feed and of no others, and has none open where it ends with a stream. Where no answer is wanted it gives none.
+-- with a feed and of no others, and has none open where it ends with a stream. It gives no answer where none is wanted, and only there.
 use Rattle.std.specs.Prelude.{◌≡◌, ℕ, ◌<◌, nat_eq, List, [], ◌∷◌, ◌++◌, map, length, Bool, true, false, not, ◌&&◌, ◌||◌}
 use Rattle.std.specs.List.{AllByRecursion}
 use Rattle.reql_datum.specs.Plain.{Plain}
@@ -65,3 +65,5 @@ module _ {PL : Type 0} (k : Talk PL) where
         on plan noreply count found arms → k.next plan noreply count found ≡ Ends (Stream vs) → arms ≡ []
     -- where no answer is wanted there is none
     pub quiet : (plan : PL) (count : ℕ) (found : List Found) (a : Answered) → k.next plan true count found ≡ Ends a → a ≡ Unsent
+    -- and only there, so that a client that waits for an answer gets one
+    pub loud : (plan : PL) (count : ℕ) (found : List Found) → k.next plan false count found ≡ Ends Unsent → ⊥

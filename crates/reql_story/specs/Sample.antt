@@ -199,6 +199,36 @@ quiet : (m : Move) (a : Answered) → hushed true m ≡ Ends a → a ≡ Unsent
 quiet (Ends x) a e = sym (ap answered_in e)
 quiet other a e = no_end other a refl e
 
+-- where an answer is wanted there is one
+abbrev Says : Answered → Type 0
+Says Unsent = ⊥
+Says other = Unit {0}
+
+end_says : (s : Said Summary Plain) → Says (feed_end s)
+end_says (said.Opened f o) = tt
+end_says other = tt
+
+kept_says : (s : Said Summary Plain) (kept : Saved) → Says (kept_end s kept)
+kept_says s saved.Yes = end_says s
+kept_says s saved.Failed = tt
+kept_says s saved.Memory = tt
+
+says : (plan : ℕ) (found : List Found) → Says (answered_in (next plan found))
+says zero [] = tt
+says zero (x ∷ []) = tt
+says zero (x ∷ RanSlot t r kept ∷ more) = kept_says r.said kept
+says zero (x ∷ SawNames p n ∷ more) = tt
+says zero (x ∷ Clocked t ∷ more) = tt
+says zero (x ∷ SawSlot s l ∷ more) = tt
+says zero (x ∷ ChangedNames p r ∷ more) = tt
+says zero (x ∷ Rolled b ∷ more) = tt
+says (suc n) [] = tt
+says (suc n) (x ∷ more) = tt
+
+unhushed_says : (m : Move) → Says (answered_in m) → Says (answered_in (hushed false m))
+unhushed_says (Ends a) h = h
+unhushed_says other h = h
+
 -- what is owed by what is open where a plan ends
 abbrev Owed : List Arm → Answered → Type 0
 Owed arms (Feed feed notes items) = IsWhole feed arms
@@ -245,4 +275,5 @@ sample_minds = record {
   whole = λ plan noreply count found arms feed notes items o e. ends_owed plan noreply found arms (Feed feed notes items) o e;
   bare = λ plan noreply count found arms vs o e. ends_owed plan noreply found arms (Stream vs) o e;
   quiet = λ plan count found a e. quiet (next plan found) a e;
+  loud = λ plan count found e. subst (λ z. Says (answered_in z)) e (unhushed_says (next plan found) (says plan found));
 }

@@ -17,6 +17,7 @@ use Rattle.reql_plan_law.specs.Minds.{Feeds, is_feed, has_feed, without_feed, wi
 use Rattle.reql_plan_law.specs.Move as plans
 use Rattle.reql_plan_law.specs.Request as requests
 use Rattle.reql_plan_law.proofs.Following.{plans_mind_each_step}
+use Rattle.reql_plan_law.proofs.Unsent.{unsent_only_with_noreply}
 use Rattle.reql_story.specs.Requests.{Arm, Opening, State, Shown, Answered, Unsent, Stream, Feed, Wanting, Move, RunSlot, Ends, Found, SawNames, Clocked, SawSlot, RanSlot, ChangedNames, Rolled}
 use Rattle.reql_story.specs.Tasks.{arms_said, arms_after, others}
 use Rattle.reql_story.specs.Minding.{has_arm, Minds, IsAside, IsOther, are_apart, IsWhole, PlansMind}
@@ -264,6 +265,37 @@ next_quiet : (m : requests.Next) (a : Answered) → ((o : plans.Outcome) → m �
 next_quiet (requests.answered o) a none e = sym (ap answered_in e) ∙ ap answered_of (none o refl)
 next_quiet (requests.moves q) a none e = asked_quiet q a e
 
+-- where an answer is wanted there is one
+abbrev Says : Answered → Type 0
+Says Unsent = ⊥
+Says a = Unit {0}
+
+says : (o : plans.Outcome) → (o ≡ plans.unsent → ⊥) → Says (answered_of o)
+says plans.unsent never = never refl
+says (plans.atom d) never = tt
+says (plans.grouped gs) never = tt
+says (plans.sequence ds) never = tt
+says (plans.feed feed notes items) never = tt
+says (plans.stop plans.memory) never = tt
+says (plans.stop (plans.fault (query_logic t))) never = tt
+says (plans.stop (plans.fault (non_existence t))) never = tt
+says (plans.stop (plans.fault (resource_limit t))) never = tt
+says (plans.stop (plans.fault (op_failed t))) never = tt
+says (plans.stop (plans.fault (user t))) never = tt
+says (plans.stop (plans.fault no_text)) never = tt
+
+asked_says : (q : plans.Ask) → Says (answered_in (asked_of q))
+asked_says plans.look_names = tt
+asked_says plans.tell = tt
+asked_says (plans.look k) = tt
+asked_says (plans.run k o) = tt
+asked_says (plans.change_names c) = tt
+asked_says plans.roll = tt
+
+next_says : (m : requests.Next) → (m ≡ requests.answered plans.unsent → ⊥) → Says (answered_in (move_of m))
+next_says (requests.answered o) never = says o (λ e. never (ap requests.answered e))
+next_says (requests.moves q) never = asked_says q
+
 -- ---- what is found is heard
 other_heard : (x : Found) → IsOther x → IsOtherHeard (heard_of x)
 other_heard (SawNames place ns) o = tt
@@ -307,4 +339,7 @@ plans_are_told key limits = record {
   bare = λ plan noreply count found arms vs o e. ends_owe limits plan noreply count found arms (Stream vs) o e;
   quiet = λ plan count found a e.
       next_quiet (plan_next plan (setting_of limits true count) (map heard_of found)) a (λ o h. plans_mind_each_step.quiet plan (setting_of limits true count) (map heard_of found) o refl h) e;
+  loud = λ plan count found e.
+      subst (λ z. Says (answered_in z)) e (next_says (plan_next plan (setting_of limits false count) (map heard_of found))
+      (λ h. absurd (true≢false (sym (unsent_only_with_noreply plan (setting_of limits false count) (map heard_of found) h)))));
 }
