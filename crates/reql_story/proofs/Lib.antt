@@ -1,3 +1,4 @@
+pub mod Answering
 pub mod Closings
 pub mod Counts
 pub mod Feeding

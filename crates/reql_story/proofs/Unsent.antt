@@ -9,7 +9,7 @@ use Rattle.reql_story.specs.Session.{Event, Turn, Visit, Greeted, Begin, Heard, 
 use Rattle.reql_story.specs.declared.end.End.{End}
 use Rattle.reql_story.specs.declared.end.End.TheVariants as ends
 
-abbrev IsWrite : End → Type 0
+abbrev pub IsWrite : End → Type 0
 IsWrite ends.WriteFault = Unit {0}
 IsWrite end = ⊥
 
@@ -22,7 +22,7 @@ not_over [] h = h
 not_over (b ∷ bs) h = h
 
 module _ {PL : Type 0} where
-  abbrev IsBroken : Doing PL → Type 0
+  abbrev pub IsBroken : Doing PL → Type 0
   IsBroken (Leaving arms end) = IsWrite end
   IsBroken other = ⊥
 
@@ -82,7 +82,7 @@ module _ {PL : Type 0} (k : Talk PL) where
   closing m n (Say token a whole) s h = absurd (subst IsBroken s.doing h)
   closing m n Want s h = absurd (subst IsBroken s.doing h)
 
-  all_closing : (m n : Mach PL) (es : List Event) → Run k m es n → IsBroken m.doing → AllByRecursion IsClosing es × IsBroken n.doing
+  pub all_closing : (m n : Mach PL) (es : List Event) → Run k m es n → IsBroken m.doing → AllByRecursion IsClosing es × IsBroken n.doing
   all_closing m n [] r h = (tt, subst IsBroken (sym (doing_of _ _ r)) h)
   all_closing m n (e ∷ es) r h =
       let c = closing m r.0 e r.1 h in

@@ -7,5 +7,6 @@ pub mod Explained
 pub mod Minding
 pub mod Worlds
 pub mod Laws
+pub mod Answering
 pub mod Sample
 pub mod Worked

@@ -1,5 +1,6 @@
 // Laws of explained sessions.
 ghost use Rattle.reql_hall.specs.Shares.{IsKept};
+ghost use Rattle.reql_story.specs.Answering.{EachIsAnswered};
 ghost use Rattle.reql_story.specs.Explained.{ExplainedBy};
 ghost use Rattle.reql_story.specs.Laws.{InOrder, FramesHandled, WornLate, FirstFailed, ValidCloses, OneMore, Learning, NothingLeft, FeedsHold};
 
@@ -27,6 +28,13 @@ pub fn worn_late<F: Planning>()
 /// WriteFault; and a session ends so only after such an answer.
 pub fn first_failed<F: Planning>()
     ensures { (f : F) → FirstFailed (F.talk f) }
+{}
+
+/// Each frame is answered just once, with its token, before the next one is taken, but for those that come with `noreply`,
+/// and for a CONTINUE that waits, which is answered later; told by counting, for each token, the answers that its frames
+/// want and those that were said with it. Where a send failed no more were said than that.
+pub fn each_is_answered<F: Planning>()
+    ensures { (f : F) → EachIsAnswered (F.talk f) }
 {}
 
 /// What a session was given, with more to come only where its input wasn't over, is valid where it is nothing, or a
