@@ -1,5 +1,5 @@
 // Laws of sessions that plan ReQL.
-ghost use Rattle.reql_told.specs.Laws.{PlansAreTold, BatchesAgree, InfoIsServers, AllInOrder, AllFramesHandled, AllWornLate, AllFirstFailed, AllValidClose, AllKept, AllOneMore, AllLearning, AllNothingLeft, AllFeedsHold, AllFeedsAreRead};
+ghost use Rattle.reql_told.specs.Laws.{PlansAreTold, BatchesAgree, InfoIsServers, AllInOrder, AllFramesHandled, AllWornLate, AllFirstFailed, AllAreAnswered, AllValidClose, AllKept, AllOneMore, AllLearning, AllNothingLeft, AllFeedsHold, AllFeedsAreRead};
 ghost use Rattle.reql_told.specs.Refusing.{FirstRefusal, ShapeRefusal};
 
 /// Plans, as a session is told of them, take from no feed, close only what they opened and is open still, and tell of
@@ -45,4 +45,12 @@ pub fn sessions_hold()
     ensures learning { AllLearning }
     ensures nothing_left { AllNothingLeft }
     ensures feeds_hold { AllFeedsHold }
+{}
+
+/// Each frame is answered just once, with its token, before the next one is taken, whatever key and limits a session has: but
+/// for those that come with `noreply`, which never are, and for a CONTINUE that waits, which is answered later. It is told
+/// by counting, for each token, the answers that its frames want and those that were said with it; where a send failed no
+/// more were said than that.
+pub fn each_is_answered()
+    ensures { AllAreAnswered }
 {}
