@@ -17,8 +17,9 @@ use Rattle.reql_story.specs.Requests.{Asked, Unreadable, Unplanned, Start, Conti
 use Rattle.reql_story.specs.Books.{Cursor, Open, Books, has_token, without, cursor_of, feed_of, is_open, closed, with_rest, with_left, with_cursor, with_feed, waits, saw_names}
 use Rattle.reql_story.specs.Tasks.{Talk, Firm, Stops, Drops, Settled, Task, Planning, Visiting, Telling, Closing, Next, done, at, only_tell, close, wanted, denied, told, stop_feed, stop, is_long, cut, tell, comes_to, continue_cursor, continue_left, continue_feed, continue_on, visit_feed, visit, refuse, begin, takes_up, next_arm, batch_of, gone, took_said, took, ran, found_more, Runs, Asks, batch_size, is_empty, skipped_item, change_items, cut_to, fitted, others, arms_denied}
 use Rattle.reql_story.specs.Session.{Event, Turn, Visit, Greeted, Begin, Heard, Lost, Quiet, Finish, Broken, Long, Wear, Poor, On, OnNames, Dice, Clock, Come, Say, Want, Doing, Rest, Visits, Busy, Leaving, Mach, fresh, Step, Run, doing_next, goes_on, Plans, PlanDenied, LeavesArm}
+use Rattle.reql_story.specs.Minding.{PlansMind}
 use Rattle.reql_story.specs.Answering as answering
-use Rattle.reql_story.specs.Answering.{same, times, said_of, wants, wants_answer, wanted_of, IsStill, PlansAnswer, Answers, EachIsAnswered}
+use Rattle.reql_story.specs.Answering.{same, times, said_of, wants, wants_answer, wanted_of, IsStill, Answers, EachIsAnswered}
 use Rattle.reql_story.specs.declared.end.End.TheVariants as ends
 use Rattle.reql_story.proofs.Shelves.{which, or_false, found_token}
 use Rattle.reql_story.proofs.Unsent.{IsBroken, all_closing}
@@ -411,7 +412,7 @@ module _ (t : ℕ) where
     comes_good b u batch found arms (Fault error text) v r o n = close_good b u arms Settled _ v _ r o tt refl
     comes_good b u batch found arms Wanting v r o n = close_good b u arms Settled _ v _ r o tt refl
 
-    module _ (quiet : (plan : PL) (count : ℕ) (found : List Found) (a : Answered) → k.next plan true count found ≡ Ends a → a ≡ Unsent) (loud : PlansAnswer k) where
+    module _ (quiet : (plan : PL) (count : ℕ) (found : List Found) (a : Answered) → k.next plan true count found ≡ Ends a → a ≡ Unsent) (loud : (plan : PL) (count : ℕ) (found : List Found) → k.next plan false count found ≡ Ends Unsent → ⊥) where
       ends_good : (b : Books) (u batch : ℕ) (plan : PL) (noreply : Bool) (count : ℕ) (found : List Found) (arms : List Arm) (to : Answered) (v : ℕ) → w b + v ≤ room b → q u + (w b + v) ≤ 1 → k.next plan noreply count found ≡ Ends to →
           Good v (w b + cond (not noreply) (q u) 0) (comes_to k b u batch found arms to)
       ends_good b u batch plan true count found arms to v r o e = subst (λ z. Good v (w b + 0) (comes_to k b u batch found arms z)) (sym (quiet plan count found to e)) (close_good b u arms Settled None v _ r o tt refl)
@@ -582,6 +583,6 @@ module _ (t : ℕ) where
             all = λ s. elim f.even [ inl x ↦ omega (arith, x, load_still m.books m.doing s) | inr x ↦ not_broken m.doing s x ];
           }
 
-module _ {PL : Type 0} (k : Talk PL) where
-  pub each_is_answered : ((plan : PL) (count : ℕ) (found : List Found) (a : Answered) → k.next plan true count found ≡ Ends a → a ≡ Unsent) → EachIsAnswered k
-  each_is_answered quiet loud es m r token = answered token k quiet loud es m r
+module _ {PL : Type 0} (k : Talk PL) (on : PL → Bool → ℕ → List Found → List Arm → Type 0) (minds : PlansMind k on) where
+  pub each_is_answered : EachIsAnswered k
+  each_is_answered es m r token = answered token k minds.quiet minds.loud es m r

@@ -1,6 +1,6 @@
 -- That each frame is answered, told by counting: for each token, how many answers its frames want, and how many were said with it.
 use Rattle.std.specs.Prelude.{◌≡◌, ◌≤◌, ◌+◌, ℕ, nat_eq, Bool, true, false, not, cond, List, [], ◌∷◌}
-use Rattle.reql_story.specs.Requests.{Asked, Unreadable, Unplanned, Start, Unsent, Ends, Found}
+use Rattle.reql_story.specs.Requests.{Asked, Unreadable, Unplanned, Start}
 use Rattle.reql_story.specs.Tasks.{Talk}
 use Rattle.reql_story.specs.Session.{Event, Begin, Say, Doing, Rest, Visits, Leaving, Mach, fresh, Run}
 use Rattle.reql_story.specs.declared.end.End.TheVariants as ends
@@ -54,10 +54,6 @@ module _ {PL : Type 0} (k : Talk PL) where
   wanted token [] = 0
   wanted token (e ∷ es) = wanted_of token e + wanted token es
 
-  -- a plan of which an answer is wanted comes to one
-  abbrev pub PlansAnswer : Type 0
-  PlansAnswer = (plan : PL) (count : ℕ) (found : List Found) → k.next plan false count found ≡ Ends Unsent → ⊥
-
   -- The answers with a token in these events, which led here. One CONTINUE of it waits at most; no more are said than are wanted,
   -- without that one's; and where the session stands still, just as many.
   pub record Answers (token : ℕ) (es : List Event) (m : Mach PL) : Type 0 where
@@ -69,4 +65,4 @@ module _ {PL : Type 0} (k : Talk PL) where
   -- which is answered at a later visit or before its feed is stopped. So it is after each beginning of a session's events; only
   -- where a send failed, what was under way, and what was still to be visited, may be left without one.
   abbrev pub EachIsAnswered : Type 0
-  EachIsAnswered = PlansAnswer → (es : List Event) (m : Mach PL) → Run k fresh es m → (token : ℕ) → Answers token es m
+  EachIsAnswered = (es : List Event) (m : Mach PL) → Run k fresh es m → (token : ℕ) → Answers token es m

@@ -1,4 +1,3 @@
-pub mod Answering
 pub mod Batches
 pub mod Refusing
 pub mod Worked

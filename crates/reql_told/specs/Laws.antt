@@ -9,13 +9,12 @@ use Rattle.reql_law.specs.declared.command.Order.{Order}
 use Rattle.reql_law.specs.declared.limits.Limits.{Limits}
 use Rattle.reql_plan_law.specs.declared.parts.Plan.{Plan}
 use Rattle.reql_plan_law.specs.Follows.{IsRead}
-use Rattle.reql_story.specs.Answering.{Answers}
+use Rattle.reql_story.specs.Answering.{EachIsAnswered}
 use Rattle.reql_story.specs.Bodies.{server_info}
 use Rattle.reql_story.specs.Explained.{ExplainedBy}
 use Rattle.reql_story.specs.Laws as story
 use Rattle.reql_story.specs.Minding.{PlansMind}
 use Rattle.reql_story.specs.Requests.{Start, RunSlot, Found}
-use Rattle.reql_story.specs.Session.{Event, Mach, Run, fresh}
 use Rattle.reql_story.specs.Tasks.{Talk, batch_size}
 use Rattle.reql_told.specs.Told.{talk, comes_by}
 
@@ -53,9 +52,8 @@ AllWornLate = (key : List ℕ) (limits : Limits) → story.WornLate (talk key li
 abbrev pub AllFirstFailed : Type 0
 AllFirstFailed = (key : List ℕ) (limits : Limits) → story.FirstFailed (talk key limits)
 
--- these plans come to an answer where one is wanted, so that nothing is asked of them
 abbrev pub AllAreAnswered : Type 0
-AllAreAnswered = (key : List ℕ) (limits : Limits) (es : List Event) (m : Mach Plan) → Run (talk key limits) fresh es m → (token : ℕ) → Answers (talk key limits) token es m
+AllAreAnswered = (key : List ℕ) (limits : Limits) → EachIsAnswered (talk key limits)
 
 abbrev pub AllValidClose : Type 0
 AllValidClose = (key : List ℕ) (limits : Limits) → story.ValidCloses (talk key limits)

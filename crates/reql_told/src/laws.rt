@@ -30,7 +30,8 @@ pub fn server_is_told()
 
 /// The laws of explained sessions, whatever their key and their limits: what came in was handled in order; every whole
 /// frame was handled, but for a failed send, a worn session or want of memory; a session is worn only where more came than
-/// its turns may take; its first failed send ends it; one that is given a valid input handles every frame of it and closes, but for a failed receive, a
+/// its turns may take; its first failed send ends it; each frame that wants an answer is given one before the next is taken,
+/// but for a CONTINUE that waits; one that is given a valid input handles every frame of it and closes, but for a failed receive, a
 /// failed send, too few turns or want of memory; a hall whose histories go on explains a session still; the sessions of a
 /// desk divide what it did; and every feed that a session opened folds to its query's value at every change up to which
 /// its answers are whole.
@@ -39,18 +40,11 @@ pub fn sessions_hold()
     ensures frames_handled { AllFramesHandled }
     ensures worn_late { AllWornLate }
     ensures first_failed { AllFirstFailed }
+    ensures each_is_answered { AllAreAnswered }
     ensures valid_close { AllValidClose }
     ensures kept { AllKept }
     ensures one_more { AllOneMore }
     ensures learning { AllLearning }
     ensures nothing_left { AllNothingLeft }
     ensures feeds_hold { AllFeedsHold }
-{}
-
-/// Each frame is answered just once, with its token, before the next one is taken, whatever key and limits a session has: but
-/// for those that come with `noreply`, which never are, and for a CONTINUE that waits, which is answered later. It is told
-/// by counting, for each token, the answers that its frames want and those that were said with it; where a send failed no
-/// more were said than that.
-pub fn each_is_answered()
-    ensures { AllAreAnswered }
 {}

@@ -2,4 +2,4 @@ use Rattle.reql_story.proofs.Answering as answering
 use Rattle.reql_story.proofs.laws.each_is_answered.Goals as goal
 
 pub returns : goal.returns
-returns g c = λ f. let minds = g.F.Planning.minds f in answering.each_is_answered (g.F.Planning.talk f) minds.quiet
+returns g c = λ f. answering.each_is_answered (g.F.Planning.talk f) (g.F.Planning.on f) (g.F.Planning.minds f)

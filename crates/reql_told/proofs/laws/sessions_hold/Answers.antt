@@ -1,3 +1,4 @@
+use Rattle.reql_story.proofs.Answering as answering
 use Rattle.reql_story.proofs.Closings as closings
 use Rattle.reql_story.proofs.Counts as counts
 use Rattle.reql_story.proofs.Feeding.{session_fed}
@@ -20,6 +21,9 @@ returns-clause-worn_late c = λ key limits. counts.worn_late (talk key limits)
 
 pub returns-clause-first_failed : goal.returns-clause-first_failed
 returns-clause-first_failed c = λ key limits. unsent.first_failed (talk key limits)
+
+pub returns-clause-each_is_answered : goal.returns-clause-each_is_answered
+returns-clause-each_is_answered c = λ key limits. answering.each_is_answered (talk key limits) (comes_by limits) (plans_are_told key limits)
 
 pub returns-clause-valid_close : goal.returns-clause-valid_close
 returns-clause-valid_close c = λ key limits. closings.valid_closes (talk key limits)
