@@ -3,7 +3,7 @@ ghost use Rattle.std.specs.Prelude.{◌<◌, length, map, string_bytes, IfOk, If
 ghost use Rattle.reql_words.specs.Words.{asks};
 ghost use Rattle.reql_core.specs.Core.{state_of};
 ghost use Rattle.reql_open_feed.specs.Open.{held_in};
-ghost use Rattle.reql_told.specs.Laws.{AllInOrder, AllFramesHandled, AllWornLate, AllFirstFailed, AllValidClose, AllFeedsHold, AllFeedsAreRead};
+ghost use Rattle.reql_told.specs.Laws.{AllInOrder, AllFramesHandled, AllWornLate, AllFirstFailed, AllAreAnswered, AllValidClose, AllFeedsHold, AllFeedsAreRead};
 ghost use Rattle.reql_serve.specs.Many.{at_end};
 ghost use Rattle.reql_loading.specs.Loading.{IsServed, Loads, Prints, Reports, Unloaded};
 
@@ -98,9 +98,9 @@ fn print<K: Sink>(
 /// opened with to what their query gives.
 ///
 /// With other words the status is 2, and nothing is served or printed. What is proved of every session of these plans stands
-/// beside what these did: its input is handled in order, every whole frame of it, it ends with its first failed send, and every
-/// feed that it opened follows something and folds to the value of its query. What else is, of planning and refusals, stands
-/// beside `run` of `reql_run`.
+/// beside what these did: its input is handled in order, every whole frame of it, each that wants an answer is given just one,
+/// it ends with its first failed send, and every feed that it opened follows something and folds to the value of its query.
+/// What else is, of planning and refusals, stands beside `run` of `reql_run`.
 pub fn load<R, K: Sink>(rt: &R, alloc: Global, words: &[String], out: &mut K) -> Loaded
 where
     R: Threads + Wait + Sync,
@@ -113,6 +113,7 @@ where
     ensures frames_handled { AllFramesHandled }
     ensures worn_late { AllWornLate }
     ensures first_failed { AllFirstFailed }
+    ensures answered { AllAreAnswered }
     ensures valid_close { AllValidClose }
     ensures feeds_hold { AllFeedsHold }
     ensures feeds_are_read { AllFeedsAreRead }

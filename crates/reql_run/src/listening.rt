@@ -7,7 +7,7 @@ ghost use Rattle.reql_core.specs.Core.{state_of};
 ghost use Rattle.reql_open_feed.specs.Open.{held_in};
 ghost use Rattle.reql_law.specs.Laws.{DocsAtStamp, StampCounts};
 ghost use Rattle.reql_law.specs.Terms.{PointsShowTheirTerms, RangesShowTheirTerms, LimitsShowTheirTerms};
-ghost use Rattle.reql_told.specs.Laws.{AllInOrder, AllFramesHandled, AllWornLate, AllFirstFailed, AllValidClose, AllFeedsHold, AllFeedsAreRead, BatchesAgree, InfoIsServers, PlansAreTold};
+ghost use Rattle.reql_told.specs.Laws.{AllInOrder, AllFramesHandled, AllWornLate, AllFirstFailed, AllAreAnswered, AllValidClose, AllFeedsHold, AllFeedsAreRead, BatchesAgree, InfoIsServers, PlansAreTold};
 ghost use Rattle.reql_told.specs.Refusing.{FirstRefusal, ShapeRefusal};
 ghost use Rattle.reql_net.specs.Nets.{Counts};
 ghost use Rattle.reql_serve.specs.Working.{outside};
@@ -160,6 +160,7 @@ where
     ensures frames_handled { AllFramesHandled }
     ensures worn_late { AllWornLate }
     ensures first_failed { AllFirstFailed }
+    ensures answered { AllAreAnswered }
     ensures valid_close { AllValidClose }
     ensures shape { ShapeRefusal }
     ensures first { FirstRefusal }

@@ -6,7 +6,7 @@ ghost use Rattle.reql_core.specs.Core.{state_of};
 ghost use Rattle.reql_open_feed.specs.Open.{held_in};
 ghost use Rattle.reql_law.specs.Laws.{DocsAtStamp, StampCounts};
 ghost use Rattle.reql_law.specs.Terms.{PointsShowTheirTerms, RangesShowTheirTerms, LimitsShowTheirTerms};
-ghost use Rattle.reql_told.specs.Laws.{AllInOrder, AllFramesHandled, AllWornLate, AllFirstFailed, AllValidClose, AllFeedsHold, AllFeedsAreRead, BatchesAgree, InfoIsServers, PlansAreTold};
+ghost use Rattle.reql_told.specs.Laws.{AllInOrder, AllFramesHandled, AllWornLate, AllFirstFailed, AllAreAnswered, AllValidClose, AllFeedsHold, AllFeedsAreRead, BatchesAgree, InfoIsServers, PlansAreTold};
 ghost use Rattle.reql_told.specs.Refusing.{FirstRefusal, ShapeRefusal};
 ghost use Rattle.reql_run.specs.Running.{IsServed, Serves, Unserved};
 
@@ -55,7 +55,8 @@ fn serve<R: Wait, L: Link + Drop, D: Dice + Drop, T: Clock + Drop>(
 ///
 /// The link is fresh. With other words the status is 2, and where memory is wanted before a session begins it is 8; then the
 /// link comes back as it was handed in, so that nothing was heard or said. What is proved of every session of these plans,
-/// whatever its input, stands beside what this one did: its input is handled in order, every whole frame of it; a valid input,
+/// whatever its input, stands beside what this one did: its input is handled in order, every whole frame of it; each frame that
+/// wants an answer is given just one, but for a CONTINUE that waits; a valid input,
 /// which is nothing or a greeting that is accepted and whole frames within the limit, is handled to its last frame, and the
 /// status is 0, unless a receive or a send failed, it took more turns than there are, or memory was wanted; every request is
 /// answered by its plan, or by the first of its refusals; and every feed that it opened follows a document, a range or the
@@ -78,6 +79,7 @@ pub fn run<R: Wait, L: Link + Drop, D: Dice + Drop, T: Clock + Drop>(
     ensures frames_handled { AllFramesHandled }
     ensures worn_late { AllWornLate }
     ensures first_failed { AllFirstFailed }
+    ensures answered { AllAreAnswered }
     ensures valid_close { AllValidClose }
     ensures shape { ShapeRefusal }
     ensures first { FirstRefusal }
