@@ -51,7 +51,8 @@ fn ask_table<V: TableView + Drop>(
         (λ h. reply_heard e.names command.slot h (λ x. table_said command x ends))) }
 {
     let points = points_of(alloc, &e.points)?;
-    let cmd = cmd_of(copied(&command.cmd)?);
+    let copy = copied(&command.cmd)?;
+    let cmd = cmd_of(copy);
     asks(
         alloc,
         Ask::Run(command.slot, Order { points, cmd }),
