@@ -200,7 +200,7 @@ impl Net for MemNet {
         ensures count { IfOk result (λ posts. length posts.items ≡ n) }
         ensures untouched { IfOk result (λ posts. All (IsUntouched (λ d. d.told)) posts.items) }
         ensures sound { IfOk result (λ posts. self.old.told.sound ≡ true → All (IsSound source source) posts.items) }
-        ensures asked { IfOk result (λ posts. self.new.told ≡ asks self.old.told port n 0) }
+        ensures asked { IfOk result (λ posts. self.new.told ≡ asks self.old.told port n n 0) }
         ensures failed { IfErr result (Counts self.old.told self.new.told port n) }
         ensures hands { IfOk result (λ posts. HandsOut self.old self.new n posts.items) }
         ensures none { IfErr result (HandsNone self.old self.new) }
@@ -212,9 +212,10 @@ impl Net for MemNet {
             self.told.fail();
             return Err(NetFault::Failed);
         }
-        match next_posts(alloc, &mut self.posts, n) {
-            Ok(given) => Ok(given),
-            Err(Memory) => Err(NetFault::Memory),
-        }
+        let Ok(given) = next_posts(alloc, &mut self.posts, n) else {
+            return Err(NetFault::Memory);
+        };
+        self.told.give(n);
+        Ok(given)
     }
 }

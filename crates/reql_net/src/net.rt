@@ -35,8 +35,8 @@ pub trait Net {
     type Clock: Clock;
 
     /// What the net tells of itself: how often it was asked, the port and the number of the last time,
-    /// how often it failed, and whether it is sound. The dice and clocks of a sound net never answer
-    /// Failed, and a net is sound from its making on, or never.
+    /// how many posts it gave then, how often it failed, and whether it is sound. The dice and clocks of
+    /// a sound net never answer Failed, and a net is sound from its making on, or never.
     ghost told: { Self → NetTold };
 
     /// So many posts for a port, one a worker, whose doors share it and have given nothing yet.
@@ -49,6 +49,6 @@ pub trait Net {
         ensures count { IfOk result (λ posts. length posts.items ≡ n) }
         ensures untouched { IfOk result (λ posts. All (IsUntouched Self.Door.told) posts.items) }
         ensures sound { IfOk result (λ posts. (told self.old).sound ≡ true → All (IsSound Self.Dice.told Self.Clock.told) posts.items) }
-        ensures asked { IfOk result (λ posts. told self.new ≡ asks (told self.old) port n 0) }
+        ensures asked { IfOk result (λ posts. told self.new ≡ asks (told self.old) port n n 0) }
         ensures failed { IfErr result (Counts (told self.old) (told self.new) port n) };
 }

@@ -187,7 +187,10 @@ impl Net for TcpNet {
     ) -> Result<Vec<Post<TcpDoor, OsDice, OsClock>>, NetFault> {
         self.told.ask(port, n);
         match self.posts(alloc, port, n) {
-            Ok(posts) => Ok(posts),
+            Ok(posts) => {
+                self.told.give(n);
+                Ok(posts)
+            }
             Err(e) if e.kind() == ErrorKind::OutOfMemory => Err(NetFault::Memory),
             Err(_) => {
                 self.told.fail();

@@ -4,6 +4,8 @@ use Rattle.reql_outside.specs.Tape.{Tape}
 use Rattle.reql_net.specs.Doors.{untouched}
 use Rattle.reql_net.specs.Nets as nets
 use Rattle.reql_net.specs.Nets.{NetTold}
+use Rattle.reql_net.specs.declared.net.NetFault.{NetFault}
+use Rattle.reql_net.specs.declared.net.NetFault.TheVariants as fault
 use Rattle.reql_hall.specs.Rooms.{Closed}
 use Rattle.reql_catalog.specs.Machine.{opening}
 use Rattle.reql_catalog.specs.declared.catalog.Catalog.{Catalog}
@@ -17,6 +19,11 @@ use Rattle.reql_serve.specs.Many.{AtEnd, ServesMany}
 use Rattle.reql_serve.specs.declared.worker.WorkState.{WorkState}
 use Rattle.reql_serve.specs.declared.worker.WorkState.TheVariants as state
 use Rattle.reql_words.specs.Words.{Asks, Listen}
+
+-- the status where no session of a port was served: its net failed, or memory was wanted
+abbrev pub status_of_fault : NetFault → ℕ
+status_of_fault fault.Failed = 3
+status_of_fault fault.Memory = 8
 
 -- the status of a worker that ended so: memory was wanted for one more session, its door failed, or neither
 abbrev pub status_of_worker : WorkState → ℕ
@@ -51,7 +58,7 @@ AreServed state known tape key tables posts sessions workers hall =
 -- The sessions that came to a port of a net. It is asked once, for this port and for so many posts, and gives them; nobody has used
 -- them, and their clocks and dice never fail where it is sound. Each of them has a worker.
 pub record ComesTo {E NE R : Type 0} (state : E → State) (known : NE → Catalog) (tape : R → Tape) (port many sessions : ℕ) (key : List ℕ) (tables : List (List ℕ × List ℕ)) (old new : NetTold) (workers : List (AtEnd R)) (hall : Closed E Order State NE CatCmd Catalog) : Type 0 where
-  pub net : new ≡ nets.asks old port many 0
+  pub net : new ≡ nets.asks old port many many 0
   pub posts : List Outside
   pub one_each : length posts ≡ many
   pub fresh : All IsFreshPost posts
@@ -70,8 +77,15 @@ pub record Listens {E NE R : Type 0} (state : E → State) (known : NE → Catal
   pub came : ComesTo state known tape port many sessions key tables old new workers hall
   pub ends : status ≡ status_of_workers (map (λ (w : AtEnd R). w.state) workers)
 
--- No session is told of: the words ask for no port, and the net isn't asked; or it is asked once, and fails, or memory is wanted.
-abbrev pub Unheard : Asks → NetTold → NetTold → ℕ → Type 0
-Unheard (Listen port many sessions key tables) old new status =
-    ((status ≡ 3) × (new ≡ nets.asks old port many 1)) ⊎ ((status ≡ 8) × (new ≡ nets.asks old port many 0))
-Unheard asked old new status = (status ≡ 2) × (new ≡ old)
+-- No session of a port is told of, and so many posts are handed back: its net is asked once, and fails, or memory is wanted, and all
+-- that it gave are handed back.
+abbrev pub ComesToNone : NetTold → NetTold → ℕ → ℕ → ℕ → NetFault → Type 0
+ComesToNone old new port many back fault.Failed = (back ≡ 0) × (new ≡ nets.asks old port many 0 1)
+ComesToNone old new port many back fault.Memory = new ≡ nets.asks old port many back 0
+
+-- No session is told of, and so many posts are handed back: the words ask for no port, and the net isn't asked; or it is asked once,
+-- and fails, or memory is wanted, and all that it gave are handed back.
+abbrev pub Unheard : Asks → NetTold → NetTold → ℕ → ℕ → Type 0
+Unheard (Listen port many sessions key tables) old new status back =
+    ((status ≡ 3) × (back ≡ 0) × (new ≡ nets.asks old port many 0 1)) ⊎ ((status ≡ 8) × (new ≡ nets.asks old port many back 0))
+Unheard asked old new status back = (status ≡ 2) × (back ≡ 0) × (new ≡ old)

@@ -1,7 +1,6 @@
 // The whole server, over the net that it is handed.
-ghost use Rattle.std.specs.Prelude.{◌≡◌, map, string_bytes, replicate, IfOk, IfErr, MatchOption};
-ghost use Rattle.reql_catalog.specs.Machine.{opening};
-ghost use Rattle.reql_law.specs.Limits.{usual_limits};
+ghost use Rattle.std.specs.Prelude.{◌≡◌, length, map, string_bytes, IfOk, IfErr, MatchResult};
+ghost use Rattle.std.specs.List.{All};
 ghost use Rattle.reql_words.specs.Words.{asks, named, Listen};
 ghost use Rattle.reql_core.specs.Core.{state_of};
 ghost use Rattle.reql_open_feed.specs.Open.{held_in};
@@ -9,23 +8,20 @@ ghost use Rattle.reql_law.specs.Laws.{DocsAtStamp, StampCounts};
 ghost use Rattle.reql_law.specs.Terms.{PointsShowTheirTerms, RangesShowTheirTerms, LimitsShowTheirTerms};
 ghost use Rattle.reql_told.specs.Laws.{AllInOrder, AllFramesHandled, AllWornLate, AllFirstFailed, AllAreAnswered, AllValidClose, AllFeedsHold, AllFeedsAreRead, BatchesAgree, InfoIsServers, PlansAreTold};
 ghost use Rattle.reql_told.specs.Refusing.{FirstRefusal, ShapeRefusal};
-ghost use Rattle.reql_net.specs.Nets.{Counts};
+ghost use Rattle.reql_net.specs.Nets.{IsUntouched};
 ghost use Rattle.reql_serve.specs.Working.{outside};
 ghost use Rattle.reql_serve.specs.Many.{at_end};
-ghost use Rattle.reql_run.specs.Listening.{AreServed, ComesTo, Listens, Unheard, greater, status_of_worker, status_of_workers};
+ghost use Rattle.reql_run.specs.Listening.{AreServed, ComesTo, ComesToNone, Listens, Unheard, greater, status_of_fault, status_of_worker, status_of_workers};
 
-use crate::opening::{engines, names_of};
+use crate::opening::{Start, begin};
 use crate::outcome::Core;
-use reql_catalog::Catalogue;
-use reql_law::{Limits, feeds_show_their_terms, table_laws};
-use reql_memory::Memory;
+use reql_law::{feeds_show_their_terms, table_laws};
+use reql_memory::Refused;
 use reql_net::{Door, Net, NetFault, Post};
 use reql_outside::{Clock, Dice, Link};
 use reql_planner::QueryPlanner;
 use reql_serve::{Left, Many, WorkState, serve_many};
-use reql_told::{
-    QueryPlans, feeds_are_read, first_refusal, plans_are_told, server_is_told, sessions_hold,
-};
+use reql_told::{feeds_are_read, first_refusal, plans_are_told, server_is_told, sessions_hold};
 use reql_words::{Command, command_of};
 use std::alloc::Global;
 use std::sync::Wait;
@@ -33,15 +29,32 @@ use std::thread::Threads;
 
 /// How a server that listened ended.
 #[derive(Drop)]
-pub struct Heard<G: Door> {
+pub struct Heard<G: Door, D, T> {
     /// 0: it served as many sessions as it was told, or no client comes any more. 2: the words ask for
     /// no port. 3: the port can't be opened, or a worker could take no more clients from it. 8: memory
     /// was wanted, to begin with or by a worker for one more session.
     pub status: u8,
-    /// The workers as they ended, with their sessions, and the hall with its whole histories. None
-    /// with the status 2, where the port can't be opened, and where memory was wanted to begin with:
-    /// then nothing is left that tells of the doors.
-    pub ended: Option<Many<Core, G>>,
+    /// The workers as they ended, with their sessions, and the hall with its whole histories. Err with
+    /// the status 2, where the port can't be opened, and where memory was wanted to begin with: the
+    /// posts that the net gave, as it handed them out, none of whose doors was asked.
+    pub ended: Result<Many<Core, G>, Vec<Post<G, D, T>>>,
+}
+
+// Why no session of a port was served, and the posts that its net gave, as it handed them out.
+#[derive(Drop)]
+struct NoneServed<G, D, T> {
+    fault: NetFault,
+    posts: Vec<Post<G, D, T>>,
+}
+
+// The status where no session of a port was served.
+fn status_of_fault(fault: NetFault) -> u8
+    ensures { result ≡ status_of_fault fault }
+{
+    match fault {
+        NetFault::Failed => 3,
+        NetFault::Memory => 8,
+    }
 }
 
 fn status_of_worker(state: WorkState) -> u8
@@ -75,7 +88,7 @@ fn status_of_workers<G: Door>(workers: &[Left<G>]) -> u8
 }
 
 /// Serves the sessions of these posts, up to so many, to who has the key, with these tables from the start. So many of the first
-/// posts begin when the others have ended.
+/// posts begin when the others have ended. An `Err` hands the posts back as they came.
 pub fn serve_posts<R, G, D, T>(
     rt: &R,
     alloc: Global,
@@ -84,7 +97,7 @@ pub fn serve_posts<R, G, D, T>(
     posts: Vec<Post<G, D, T>>,
     sessions: u64,
     later: usize,
-) -> Result<Many<Core, G>, Memory>
+) -> Result<Many<Core, G>, Refused<Vec<Post<G, D, T>>>>
 where
     R: Threads + Wait + Sync,
     G: Door + Drop + Send,
@@ -92,20 +105,24 @@ where
     <G::Link as Link>::Record: Drop + Send,
     D: Dice + Drop + Send,
     T: Clock + Drop + Send,
-    ensures { IfOk result (λ many. AreServed (state_of held_in) (λ n. n) G.Link.kept key.now (map named tables.now)
+    ensures served { IfOk result (λ many. AreServed (state_of held_in) (λ n. n) G.Link.kept key.now (map named tables.now)
         (map (λ p. outside (T.told p.clock) (D.told p.dice) (G.told p.door)) posts.items) sessions
         (map (λ w. at_end (G.told w.door) w.ended.items w.left w.state) many.workers.items) many.hall) }
+    ensures back { IfErr result (λ refused. refused.back ≡ posts) }
 {
-    let limits = Limits::usual();
-    let tables = names_of(alloc, tables)?;
-    let names = Catalogue::new(alloc, &tables, limits.slots)?;
-    let engines = engines(alloc, &limits)?;
-    let key = key.as_bytes().to_vec(alloc)?;
-    let planner = QueryPlanner::<Core>::new(QueryPlans { key, limits });
+    let Ok(start) = begin(alloc, key, tables) else {
+        return Err(Refused { back: posts });
+    };
+    let Start {
+        names,
+        engines,
+        plans,
+    } = start;
+    let planner = QueryPlanner::<Core>::new(plans);
     serve_many(rt, alloc, names, engines, &planner, posts, sessions, later)
 }
 
-// Serves the sessions that come to a port, by so many workers.
+// Serves the sessions that come to a port, by so many workers. An `Err` hands back the posts that the net gave.
 fn serve_port<R, N>(
     rt: &R,
     alloc: Global,
@@ -115,7 +132,7 @@ fn serve_port<R, N>(
     workers: u32,
     sessions: u64,
     net: &mut N,
-) -> Result<Many<Core, N::Door>, NetFault>
+) -> Result<Many<Core, N::Door>, NoneServed<N::Door, N::Dice, N::Clock>>
 where
     R: Threads + Wait + Sync,
     N: Net,
@@ -127,12 +144,22 @@ where
     ensures came { IfOk result (λ many. ComesTo (state_of held_in) (λ n. n) N.Door.Link.kept port workers sessions
         key.now (map named tables.now) (N.told net.old) (N.told net.new)
         (map (λ w. at_end (N.Door.told w.door) w.ended.items w.left w.state) many.workers.items) many.hall) }
-    ensures failed { IfErr result (Counts (N.told net.old) (N.told net.new) port workers) }
+    ensures none { IfErr result (λ none. ComesToNone (N.told net.old) (N.told net.new) port workers (length none.posts.items) none.fault) }
+    ensures untouched { IfErr result (λ none. All (IsUntouched N.Door.told) none.posts.items) }
 {
-    let posts = net.doors(alloc, port, workers)?;
+    let posts = match net.doors(alloc, port, workers) {
+        Ok(posts) => posts,
+        Err(fault) => {
+            let posts = Vec::new(alloc);
+            return Err(NoneServed { fault, posts });
+        }
+    };
     match serve_posts(rt, alloc, key, tables, posts, sessions, 0) {
         Ok(many) => Ok(many),
-        Err(Memory) => Err(NetFault::Memory),
+        Err(refused) => Err(NoneServed {
+            fault: NetFault::Memory,
+            posts: refused.back,
+        }),
     }
 }
 
@@ -140,9 +167,16 @@ where
 /// `listen --port P [--workers W] [--sessions S] [--key K] [--table DB.NAME]..`, its options in any
 /// order. W clients are served at once, each by a worker of its own, and S in all.
 ///
-/// With other words the status is 2, and the net isn't asked. What is proved of every session of these
-/// plans stands beside what these did, as it does beside `run`.
-pub fn listen<R, N>(rt: &R, alloc: Global, words: &[String], net: &mut N) -> Heard<N::Door>
+/// With other words the status is 2, and the net isn't asked. Where memory is wanted before a client is
+/// served, the posts that the net gave come back, all of them and with untouched doors, so that nobody
+/// was heard and nothing was said. What is proved of every session of these plans stands beside what
+/// these did, as it does beside `run`.
+pub fn listen<R, N>(
+    rt: &R,
+    alloc: Global,
+    words: &[String],
+    net: &mut N,
+) -> Heard<N::Door, N::Dice, N::Clock>
 where
     R: Threads + Wait + Sync,
     N: Net,
@@ -151,11 +185,12 @@ where
     <<N::Door as Door>::Link as Link>::Record: Drop + Send,
     N::Dice: Drop + Send,
     N::Clock: Drop + Send,
-    ensures listens { MatchOption result.ended
-        (Unheard (asks (map string_bytes words.now)) (N.told net.old) (N.told net.new) result.status)
+    ensures listens { MatchResult result.ended
         (λ many. Listens (state_of held_in) (λ n. n) N.Door.Link.kept (asks (map string_bytes words.now))
         (N.told net.old) (N.told net.new) result.status
-        (map (λ w. at_end (N.Door.told w.door) w.ended.items w.left w.state) many.workers.items) many.hall) }
+        (map (λ w. at_end (N.Door.told w.door) w.ended.items w.left w.state) many.workers.items) many.hall)
+        (λ posts. Unheard (asks (map string_bytes words.now)) (N.told net.old) (N.told net.new) result.status (length posts.items)) }
+    ensures untouched { IfErr result.ended (λ posts. All (IsUntouched N.Door.told) posts.items) }
     ensures in_order { AllInOrder }
     ensures frames_handled { AllFramesHandled }
     ensures worn_late { AllWornLate }
@@ -192,7 +227,7 @@ where
     else {
         return Heard {
             status: 2,
-            ended: None,
+            ended: Err(Vec::new(alloc)),
         };
     };
     match serve_port(
@@ -207,15 +242,11 @@ where
     ) {
         Ok(many) => Heard {
             status: status_of_workers(&many.workers),
-            ended: Some(many),
+            ended: Ok(many),
         },
-        Err(NetFault::Failed) => Heard {
-            status: 3,
-            ended: None,
-        },
-        Err(NetFault::Memory) => Heard {
-            status: 8,
-            ended: None,
+        Err(none) => Heard {
+            status: status_of_fault(none.fault),
+            ended: Err(none.posts),
         },
     }
 }

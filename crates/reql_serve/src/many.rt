@@ -1,5 +1,5 @@
 // Many sessions, by workers at the desks of one hall.
-ghost use Rattle.std.specs.Prelude.{◌≡◌, All, IfOk, map};
+ghost use Rattle.std.specs.Prelude.{◌≡◌, All, IfErr, IfOk, map};
 ghost use Rattle.reql_catalog.specs.Machine.{catalogue_machine};
 ghost use Rattle.reql_serve.specs.Working.{outside};
 ghost use Rattle.reql_serve.specs.Many.{SharesAddUp, ServesMany, at_end};
@@ -10,7 +10,7 @@ use crate::worker::{Member, WorkState};
 use reql_catalog::Catalogue;
 use reql_hall::{FinalHall, Hall};
 use reql_law::TableEngine;
-use reql_memory::Memory;
+use reql_memory::Refused;
 use reql_net::{Door, Post};
 use reql_outside::{Clock, Dice, Link};
 use reql_story::Planning;
@@ -40,8 +40,8 @@ pub struct Many<C: TableEngine, G: Door> {
 
 /// Serves up to so many sessions at a hall of these names and engines, which nobody has used: a worker for each post, on a
 /// thread of its own where one can be made, each at a desk of its own, with its share of the sessions. So many of the first
-/// workers begin when the others have ended. Memory where there is none to begin with, or more than 2^32 - 1 posts: these are
-/// let go then, and nothing is left that tells of their doors.
+/// workers begin when the others have ended. An `Err` is want of memory to begin with, or more than 2^32 - 1 posts, and hands the
+/// posts back as they came: no door was asked.
 pub fn serve_many<R, C, P, G, D, T>(
     rt: &R,
     alloc: Global,
@@ -51,7 +51,7 @@ pub fn serve_many<R, C, P, G, D, T>(
     posts: Vec<Post<G, D, T>>,
     sessions: u64,
     later: usize,
-) -> Result<Many<C, G>, Memory>
+) -> Result<Many<C, G>, Refused<Vec<Post<G, D, T>>>>
 where
     R: Threads + Wait + Sync,
     C: TableEngine + Drop + Send,
@@ -66,18 +66,23 @@ where
     T: Clock + Drop + Send,
     requires names_unused { catalogue_machine.place names ≡ 0 }
     requires slots_unused { All (λ e. C.machine.place (C.state e) ≡ 0) engines.items }
-    ensures { IfOk result (λ many. ServesMany (P.talk planner.now) C.some_state G.Link.kept C.state (λ n. n) names
+    ensures served { IfOk result (λ many. ServesMany (P.talk planner.now) C.some_state G.Link.kept C.state (λ n. n) names
         (map C.state engines.items) (map (λ p. outside (T.told p.clock) (D.told p.dice) (G.told p.door)) posts.items) sessions
         (map (λ w. at_end (G.told w.door) w.ended.items w.left w.state) many.workers.items) many.hall) }
+    ensures back { IfErr result (λ refused. refused.back ≡ posts) }
 {
     let Ok(slots) = u32::try_from(engines.len()) else {
-        return Err(Memory);
+        return Err(Refused { back: posts });
     };
     let Ok(count) = u32::try_from(posts.len()) else {
-        return Err(Memory);
+        return Err(Refused { back: posts });
     };
-    let room_after = Parted::with_room(alloc, posts.len())?;
-    let (hall, desks, room) = Hall::new(alloc, names, engines, count)?;
+    let Ok(room_after) = Parted::with_room(alloc, posts.len()) else {
+        return Err(Refused { back: posts });
+    };
+    let Ok((hall, desks, room)) = Hall::new(alloc, names, engines, count) else {
+        return Err(Refused { back: posts });
+    };
     let mut workers = seat_all(alloc, posts, desks, sessions)?;
     serve_in_turn(rt, alloc, &hall, slots, planner, &mut workers, later);
     let parted = part(workers, room_after);

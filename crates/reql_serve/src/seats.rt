@@ -1,5 +1,5 @@
 // Workers made of posts and desks, and taken apart again.
-ghost use Rattle.std.specs.Prelude.{◌≡◌, ◌<◌, ◌≤◌, [], ⊤, All, IfOk, length, map};
+ghost use Rattle.std.specs.Prelude.{◌≡◌, ◌<◌, ◌≤◌, [], ⊤, All, IfErr, IfOk, length, map};
 ghost use Rattle.std.specs.List.{AllZip};
 ghost use Rattle.reql_serve.specs.Working.{IsThere};
 ghost use Rattle.reql_serve.specs.Many.{share_of, shares_of};
@@ -9,7 +9,7 @@ use crate::worker::{WorkState, Worker};
 use reql_catalog::Catalogue;
 use reql_hall::Desk;
 use reql_law::TableEngine;
-use reql_memory::Memory;
+use reql_memory::{Memory, Refused};
 use reql_net::{Door, Post};
 use reql_outside::Link;
 use reql_session::Bench;
@@ -51,13 +51,14 @@ fn seat<C: TableEngine, G: Door, D, T>(
     }
 }
 
-/// A worker for each post, at the desk of its place, with its share of so many sessions.
+/// A worker for each post, at the desk of its place, with its share of so many sessions. An `Err` hands the posts back as they
+/// came.
 pub(crate) fn seat_all<C: TableEngine + Drop, G: Door + Drop, D: Drop, T: Drop>(
     alloc: Global,
     posts: Vec<Post<G, D, T>>,
     desks: Vec<Desk<C, Catalogue>>,
     sessions: u64,
-) -> Result<Vec<Worker<C, G, D, T>>, Memory>
+) -> Result<Vec<Worker<C, G, D, T>>, Refused<Vec<Post<G, D, T>>>>
 where
     <G::Link as Link>::Record: Drop,
     requires count { length desks.items ≡ length posts.items }
@@ -68,10 +69,11 @@ where
     ensures shares { IfOk result (λ workers. map (λ w. w.left) workers.items
         ≡ shares_of sessions (length posts.items)) }
     ensures unused { IfOk result (λ workers. All (λ w. w.ended.items ≡ []) workers.items) }
+    ensures back { IfErr result (λ refused. refused.back ≡ posts) }
 {
     let count = posts.len() as u64;
     let Ok(mut workers) = Vec::with_capacity(alloc, posts.len()) else {
-        return Err(Memory);
+        return Err(Refused { back: posts });
     };
     let mut free = desks.into_iter();
     for post in posts {

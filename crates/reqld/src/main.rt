@@ -173,7 +173,7 @@ fn main(rt: HostRuntime) -> ExitCode {
                 Err(error) => return unopened(&rt, error.kind()),
             };
             let outcome = listen(&rt, alloc, &words, &mut net);
-            told(&rt, port, outcome.status, outcome.ended.is_some())
+            told(&rt, port, outcome.status, outcome.ended.is_ok())
         }
         Command::Load { .. } => {
             let loaded = load(&rt, alloc, &words, &mut StdSink::new(rt));

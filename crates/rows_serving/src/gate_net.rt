@@ -40,6 +40,7 @@ pub struct GateNet {
     parts: Vec<Part>,
     asked: u64,
     last: Option<(u16, u32)>,
+    gave: u32,
 }
 
 impl GateNet {
@@ -49,6 +50,7 @@ impl GateNet {
             parts,
             asked: 0,
             last: None,
+            gave: 0,
         }
     }
 }
@@ -93,7 +95,7 @@ impl Net for GateNet {
 
     type Clock = MemClock;
 
-    ghost told = { λ n. record { asked = n.asked; last = n.last; faults = 0; sound = false } };
+    ghost told = { λ n. record { asked = n.asked; last = n.last; gave = n.gave; faults = 0; sound = false } };
 
     fn doors(
         &mut self,
@@ -103,8 +105,12 @@ impl Net for GateNet {
     ) -> Result<Vec<Post<GateDoor, MemDice, MemClock>>, NetFault> {
         self.asked = self.asked.saturating_add(1);
         self.last = Some((port, n));
+        self.gave = 0;
         match posts(alloc, &mut self.parts, n) {
-            Ok(given) => Ok(given),
+            Ok(given) => {
+                self.gave = n;
+                Ok(given)
+            }
             Err(Memory) => Err(NetFault::Memory),
         }
     }

@@ -2,6 +2,7 @@
 use crate::gate_link::{GateRecord, Part};
 use crate::gate_net::{GateDoor, GateNet};
 use crate::pieces::{GREETED, GREETING, INSERT, with_frames, words_of};
+use reql_outside::{MemClock, MemDice};
 use reql_run::{Heard, listen};
 use reql_serve::Member;
 use reql_story::End;
@@ -35,8 +36,8 @@ fn closed(ended: &[Member<GateRecord>]) -> u64 {
 }
 
 // The same, of all sessions.
-fn all_closed(heard: &Heard<GateDoor>) -> u64 {
-    let Some(many) = &heard.ended else {
+fn all_closed(heard: &Heard<GateDoor, MemDice, MemClock>) -> u64 {
+    let Ok(many) = &heard.ended else {
         return 0;
     };
     let mut count: u64 = 0;

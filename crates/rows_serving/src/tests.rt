@@ -208,8 +208,8 @@ fn sent_by(ended: &[Member<MemRecord>], sent: &[u8]) -> u64 {
 }
 
 // The same, of all workers.
-fn all_sent(heard: &Heard<MemDoor>, sent: &[u8]) -> u64 {
-    let Some(many) = &heard.ended else {
+fn all_sent(heard: &Heard<MemDoor, MemDice, MemClock>, sent: &[u8]) -> u64 {
+    let Ok(many) = &heard.ended else {
         return 0;
     };
     let mut count: u64 = 0;
@@ -239,7 +239,7 @@ fn a_net_that_fails_is_status_3(rt: HostRuntime) -> Result<(), Fail> {
     let link = at_once(alloc, Vec::new(alloc))?;
     let mut net = net_of(alloc, link, &[0])?;
     let heard = listen(&rt, alloc, &words, &mut net);
-    let told = (heard.status, heard.ended.is_none());
+    let told = (heard.status, heard.ended.is_err());
     assert_eq!(rt; told, (3, true));
     Ok(())
 }

@@ -14,5 +14,5 @@ returns g c =
       five = counted (post_of source source (λ d. d.told)) posts ∙ c.in_ok-posts.ensures.count;
       fresh = All-map IsFreshPost (post_of source source (λ d. d.told)) posts c.in_ok-posts.ensures.untouched;
       sound = All-map IsSoundPost (post_of source source (λ d. d.told)) posts c.in_ok-posts.ensures.sound;
-      served = c.in_ok-many.ensures;
+      served = c.in_ok-many.ensures.served;
     }

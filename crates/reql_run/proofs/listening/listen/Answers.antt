@@ -1,9 +1,9 @@
-use Rattle.std.proofs.Common.{◌∙◌, ap, sym, map}
+use Rattle.std.proofs.Common.{◌∙◌, ap, sym, map, length}
 use Rattle.reql_serve.specs.Many.{AtEnd}
 use Rattle.reql_serve.proofs.Crew.{end_of}
 use Rattle.reql_words.specs.Words.{named, Listen}
 use Rattle.reql_run.specs.Listening.{status_of_workers}
-use Rattle.reql_run.proofs.Posts.{map_twice}
+use Rattle.reql_run.proofs.Posts.{map_twice, unheard}
 use Rattle.reql_run.proofs.listening.listen.Goals as goal
 
 pub returns-in-Ok-clause-listens : goal.returns-in-Ok-clause-listens
@@ -18,3 +18,8 @@ returns-in-Ok-clause-listens g c = record {
   ends = c.status_of_workers.ensures ∙ ap (λ ws. status_of_workers (map (λ w. w.state) ws)) c.deref.ensures.value
       ∙ ap status_of_workers (sym (map_twice (end_of g.N.Door.Door.told) (λ (w : AtEnd g.row.N-Door-Link-Record.Denot). w.state) c.in-Ok.many.workers.items));
 }
+
+pub returns-in-Err-clause-listens : goal.returns-in-Err-clause-listens
+returns-in-Err-clause-listens g c =
+    unheard _ c.in-Listen.port c.in-Listen.workers c.in-Listen.sessions c.in-Listen.key.now (map named c.as_slice.result.now) (g.N.Net.told c.args.net.now) (g.N.Net.told c.serve_port.new.net) c.status_of_fault.result (length c.in-Err.none.posts.items) c.in-Err.none.fault
+    (c.in-Listen.ensures ∙ ap (λ l. Listen c.in-Listen.port c.in-Listen.workers c.in-Listen.sessions c.in-Listen.key.now (map named l)) (sym c.as_slice.ensures.value)) c.status_of_fault.ensures c.in-Err.ensures.none

@@ -1,5 +1,4 @@
-use Rattle.std.proofs.Common.{arith, ◌∙◌, ap, map, replicate, IfOk}
-use Rattle.std.proofs.lemmas.Grind.{common_steps}
+use Rattle.std.proofs.Common.{◌∙◌, ap, map, replicate, IfOk}
 use Rattle.reql_catalog.specs.Machine.{opening}
 use Rattle.reql_law.specs.Limits.{usual_limits}
 use Rattle.reql_law.specs.Machine.{unused}
@@ -16,16 +15,19 @@ use Rattle.reql_run.proofs.Starting.{all_unused}
 use Rattle.reql_run.proofs.listening.serve_posts.Goals as goal
 
 pub serve_many-requires-clause-slots_unused : goal.serve_many-requires-clause-slots_unused
-serve_many-requires-clause-slots_unused g c κs within = all_unused (state_of held_in) _ _ c.in_ok-engines.engines.items _ c.in_ok-engines.ensures
+serve_many-requires-clause-slots_unused g c κs within = all_unused (state_of held_in) usual_limits.feeds usual_limits.tail c.in-Ok.start.engines.items usual_limits.slots c.in-Ok.ensures.engines
 
-pub returns : goal.returns
-returns g c =
+pub returns-clause-served : goal.returns-clause-served
+returns-clause-served g c =
     moved (λ k l n es. IfOk c.serve_many.result (λ many. ServesMany (talk k l) (unused 0 0) g.G.Link.Link.kept (state_of held_in) (λ n. n) n es
     (map (λ p. outside (g.T.Clock.told p.clock) (g.D.Dice.told p.dice) (g.G.Door.told p.door)) c.args.posts.items) c.args.sessions
     (map (λ w. at_end (g.G.Door.told w.door) w.ended.items w.left w.state) many.workers.items) many.hall))
     _ c.args.key.now _ usual_limits _ (opening (map named c.args.tables.now) usual_limits.slots) _ (replicate usual_limits.slots (unused usual_limits.feeds usual_limits.tail))
-    (grind (arith, common_steps)) (grind (arith, common_steps)) (grind (arith, common_steps))
-    (c.in_ok-engines.ensures ∙ ap (λ l. replicate l.slots (unused l.feeds l.tail)) c.usual-limits.ensures) c.serve_many.ensures
+    (ap (λ p. p.key.items) c.new-planner.ensures ∙ c.in-Ok.ensures.key) (ap (λ p. p.limits) c.new-planner.ensures ∙ c.in-Ok.ensures.limits) c.in-Ok.ensures.names c.in-Ok.ensures.engines
+    c.serve_many.ensures.served
+
+pub returns-clause-back : goal.returns-clause-back
+returns-clause-back g c = c.serve_many.ensures.back
 
 pub serve_many-requires-send-C : goal.serve_many-requires-send-C
 serve_many-requires-send-C g c κs within = let s = engine_send in search sendable
