@@ -115,7 +115,7 @@ rounds_send : IsSend rounds.the_field.row
 rounds_send = search (sendable, crosses, datum_send, items_send, terms_send, summary_send) depth 20
 
 then_send : IsSend then_of.the_field.row
-then_send = search (sendable, crosses, rounds_send) depth 20
+then_send = let r = as_row_send rounds.the_field rounds_send in search (sendable, crosses, rounds_send) depth 20
 
 refusal_send : IsSend refusal.the_field.row
 refusal_send = search (sendable, crosses, name_send) depth 20
