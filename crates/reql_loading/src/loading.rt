@@ -99,7 +99,7 @@ fn print<K: Sink>(
 ///
 /// With other words the status is 2, and nothing is served or printed. What is proved of every session of these plans stands
 /// beside what these did: its input is handled in order, every whole frame of it, each that wants an answer is given just one,
-/// it ends with its first failed send, and every feed that it opened follows something and folds to the value of its query.
+/// but for a CONTINUE that waits and after a failed send, it ends with its first failed send, and every feed that it opened follows something and folds to the value of its query.
 /// What else is, of planning and refusals, stands beside `run` of `reql_run`.
 pub fn load<R, K: Sink>(rt: &R, alloc: Global, words: &[String], out: &mut K) -> Loaded
 where

@@ -35,12 +35,12 @@ pub struct Heard<G: Door, D, T> {
     /// was wanted, to begin with or by a worker for one more session.
     pub status: u8,
     /// The workers as they ended, with their sessions, and the hall with its whole histories. Err with
-    /// the status 2, where the port can't be opened, and where memory was wanted to begin with: the
-    /// posts that the net gave, as it handed them out, none of whose doors was asked.
+    /// the status 2, where the port can't be opened, and where memory was wanted to begin with: all the
+    /// posts that the net gave, none of whose doors was asked.
     pub ended: Result<Many<Core, G>, Vec<Post<G, D, T>>>,
 }
 
-// Why no session of a port was served, and the posts that its net gave, as it handed them out.
+// Why no session of a port was served, and the posts that its net gave.
 #[derive(Drop)]
 struct NoneServed<G, D, T> {
     fault: NetFault,

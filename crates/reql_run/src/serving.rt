@@ -56,7 +56,7 @@ fn serve<R: Wait, L: Link + Drop, D: Dice + Drop, T: Clock + Drop>(
 /// The link is fresh. With other words the status is 2, and where memory is wanted before a session begins it is 8; then the
 /// link comes back as it was handed in, so that nothing was heard or said. What is proved of every session of these plans,
 /// whatever its input, stands beside what this one did: its input is handled in order, every whole frame of it; each frame that
-/// wants an answer is given just one, but for a CONTINUE that waits; a valid input,
+/// wants an answer is given just one, but for a CONTINUE that waits and after a failed send; a valid input,
 /// which is nothing or a greeting that is accepted and whole frames within the limit, is handled to its last frame, and the
 /// status is 0, unless a receive or a send failed, it took more turns than there are, or memory was wanted; every request is
 /// answered by its plan, or by the first of its refusals; and every feed that it opened follows a document, a range or the

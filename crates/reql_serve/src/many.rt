@@ -40,8 +40,8 @@ pub struct Many<C: TableEngine, G: Door> {
 
 /// Serves up to so many sessions at a hall of these names and engines, which nobody has used: a worker for each post, on a
 /// thread of its own where one can be made, each at a desk of its own, with its share of the sessions. So many of the first
-/// workers begin when the others have ended. An `Err` is want of memory to begin with, or more than 2^32 - 1 posts, and hands the
-/// posts back as they came: no door was asked.
+/// workers begin when the others have ended. An `Err` is want of memory to begin with, or more than 2^32 - 1 posts or engines, and hands
+/// the posts back as they came: no door was asked.
 pub fn serve_many<R, C, P, G, D, T>(
     rt: &R,
     alloc: Global,
