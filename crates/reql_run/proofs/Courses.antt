@@ -115,7 +115,7 @@ rounds_send : IsSend rounds.the_field.row
 rounds_send = search (sendable, crosses, datum_send, items_send, terms_send, summary_send) depth 20
 
 then_send : IsSend then_of.the_field.row
-then_send = let r = as_row_send rounds.the_field rounds_send in search (sendable, crosses, rounds_send) depth 20
+then_send = let r = as_row_send rounds.the_field rounds_send in search (sendable, crosses) depth 20
 
 refusal_send : IsSend refusal.the_field.row
 refusal_send = search (sendable, crosses, name_send) depth 20
@@ -173,7 +173,7 @@ module _ (V : RattleType) where
   waiting_send v = let s = as_row_send (stage.the_field V) (stage_send v) in search (sendable, crosses, plan_send) depth 20
 
   course_send : IsSend V → IsSend (course.the_row V)
-  course_send v = let w = as_row_send (waiting.the_field V) (waiting_send v) in search (sendable, crosses) depth 20
+  course_send v = let w = waiting_send v in search (sendable, crosses) depth 20
 
 module _ (V : RattleType) (g : Ghosts V.Denot) where
   pub query_send : IsSend V → IsSend (query.the_row V g)
