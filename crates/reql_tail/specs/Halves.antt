@@ -79,7 +79,7 @@ module _ {B E : Type 0} where
     NextFits most older newer None = Unit {0}
     NextFits most older newer (Some h) = Begins most older newer h
 
-    -- the base is the opening one, or it has moved: then more entries came than the most, and half of the most are kept
+    -- the base is the opening one, or it has moved: then more entries came than the most, and at least half of the most are kept
     pub record HasMoved (most : ℕ) (opening : B) (older : Half B E) (newer : Option (Half B E)) : Type 0 where
       pub far : place (state opening) + most < place (state older.start) + length (all_entries older newer)
       pub least : most / 2 ≤ length (all_entries older newer)

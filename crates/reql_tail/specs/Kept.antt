@@ -21,7 +21,7 @@ module _ {B E S : Type 0} (state : B → S) (after : S → E → S) where
     pub base : new.base ≡ old.base
     pub entries : new.entries ≡ old.entries ++ entry ∷ []
 
-  -- an entry more, where a first part goes, of one entry at least: the base is what it led to, and the part that stays has half of the most
+  -- an entry more, where a first part goes, of one entry at least: the base is what it led to, and the part that stays has at least half of the most
   pub record Moves (old new : Kept B E) (entry : E) : Type 0 where
     pub gone : List E
     pub left : List E
@@ -38,7 +38,7 @@ module _ {B E S : Type 0} (state : B → S) (after : S → E → S) where
     pub how : ((length old.entries < old.most) × Lengthens old new entry) ⊎ ((length old.entries ≡ old.most) × Moves old new entry)
 
   module _ (place : S → ℕ) where
-    -- while no more entries came than the most, the base is where the history began; and after it has moved, half of the most are kept
+    -- while no more entries came than the most, the base is where the history began; and after it has moved, at least half of the most are kept
     pub record IsKept (k : Kept B E) : Type 0 where
       pub few : length k.entries ≤ k.most
       pub base : place (standing k) ≤ place (state k.opening) + k.most → k.base ≡ k.opening
