@@ -8,3 +8,4 @@ pub mod Tables
 pub mod Sampled
 pub mod Numbers
 pub mod Known
+pub mod Telling

@@ -10,7 +10,7 @@ use Rattle.reql_table_machine.specs.Worked.{Rows}
 use Rattle.reql_table_machine.specs.declared.sample.Kept.{Kept}
 
 pub rows : Rows
-rows = (refl, refl, refl, refl, refl, refl, refl, refl)
+rows = (refl, refl, refl, refl, refl, refl, refl, refl, refl, refl)
 
 all_may : (d : ℕ) (xs : List ℕ) → Comes one_number May d xs
 all_may d [] = tt

@@ -24,7 +24,7 @@ module _ {I : Type 0} where
 
 module _ {K I : Type 0} where
   -- a feed after some items came, with those that were dropped
-  record Drops (size : ℕ) (f : Feed K I) (ps : List (ℕ × I)) (g : Feed K I) : Type 0 where
+  pub record Drops (size : ℕ) (f : Feed K I) (ps : List (ℕ × I)) (g : Feed K I) : Type 0 where
     pub dropped : List (ℕ × I)
     pub whole : f.queue ++ ps ≡ dropped ++ g.queue
     pub many : length dropped ≡ excess size f ps
@@ -41,12 +41,12 @@ module _ {K I : Type 0} where
   }
 
   -- what is left is within the size again
-  left_fits : (size : ℕ) (f : Feed K I) (ps : List (ℕ × I)) (g : Feed K I) → Fits size f → Drops size f ps g → Fits size g
+  pub left_fits : (size : ℕ) (f : Feed K I) (ps : List (ℕ × I)) (g : Feed K I) → Fits size f → Drops size f ps g → Fits size g
   left_fits size f ps g h d =
       let long : length f.queue + length ps ≡ length d.dropped + length g.queue = sym (length-append f.queue ps) ∙ ap length d.whole ∙ length-append d.dropped g.queue in
       record { queued = omega (arith, d.many, long, h.queued); counted = omega (arith, d.skips) }
 
-  drops_on : (size : ℕ) (f : Feed K I) (ps qs : List (ℕ × I)) (g i : Feed K I) → Fits size f → Drops size f ps g → Drops size g qs i → Drops size f (ps ++ qs) i
+  pub drops_on : (size : ℕ) (f : Feed K I) (ps qs : List (ℕ × I)) (g i : Feed K I) → Fits size f → Drops size f ps g → Drops size g qs i → Drops size f (ps ++ qs) i
   drops_on size f ps qs g i h c d =
       let long : length f.queue + length ps ≡ length c.dropped + length g.queue = sym (length-append f.queue ps) ∙ ap length c.whole ∙ length-append c.dropped g.queue in
       let both : length (c.dropped ++ d.dropped) ≡ length c.dropped + length d.dropped = length-append c.dropped d.dropped in
@@ -87,7 +87,7 @@ module _ {K I : Type 0} where
       (λ _ u. let le : size ≤ length f.queue = ltb-false (length f.queue) size u in full_drops size f p h le f.queue refl)
       refl
 
-  pushes_drop : (size : ℕ) (f : Feed K I) (ps : List (ℕ × I)) → Fits size f → Drops size f ps (push_all size f ps)
+  pub pushes_drop : (size : ℕ) (f : Feed K I) (ps : List (ℕ × I)) → Fits size f → Drops size f ps (push_all size f ps)
   pushes_drop size f [] h = none_drop size f h
   pushes_drop size f (p ∷ ps) h =
       let one : Drops size f (p ∷ []) (push size f p) = push_drops size f p h in
@@ -239,10 +239,10 @@ module _ {D J W N P M X K I F : Type 0} (m : Feeding D J W N P M X K I F) where
   skips_of_full_queues o history none = history_full history o (subst (λ fs. AllFull fs) (sym none) tt)
 
   -- a feed that no command of its owner names, after what the changes of a history append to it
-  abbrev grown : Feed K I → D → ℕ → List X → Feed K I
+  abbrev pub grown : Feed K I → D → ℕ → List X → Feed K I
   grown f d n xs = push_all (m.size f.kept) f (appended m f.kept d n xs)
 
-  grown_kept : (f : Feed K I) (d : D) (n : ℕ) (xs : List X) → (grown f d n xs).kept ≡ f.kept
+  pub grown_kept : (f : Feed K I) (d : D) (n : ℕ) (xs : List X) → (grown f d n xs).kept ≡ f.kept
   grown_kept f d n xs = (same_pushes (m.size f.kept) f (appended m f.kept d n xs)).kept
 
   grown_on : (f g : Feed K I) (ps : List (ℕ × I)) (d : D) (n : ℕ) (xs : List X) → g ≡ push_all (m.size f.kept) f ps → g.kept ≡ f.kept → grown g d n xs ≡ push_all (m.size f.kept) f (ps ++ appended m f.kept d n xs)
@@ -279,12 +279,12 @@ module _ {D J W N P M X K I F : Type 0} (m : Feeding D J W N P M X K I F) where
   effect_found by number t who cmds.Shut f v e = e
   effect_found by number t who cmds.Sync f v e = e
 
-  after_found : (by number : ℕ) (t : T) (who : ℕ) (cmd : Cmd W N P) (f : Feed K I) → Leaves by number who cmd → find_feed by number t.feeds ≡ Some f
+  pub after_found : (by number : ℕ) (t : T) (who : ℕ) (cmd : Cmd W N P) (f : Feed K I) → Leaves by number who cmd → find_feed by number t.feeds ≡ Some f
       → find_feed by number (after_cmd m t who cmd).feeds ≡ Some (grown f t.docs t.stamp (changes_at m t who cmd))
   after_found by number t who cmd f v e = split (adds m (answer m t who cmd)) (λ b. find_feed by number (cond b (one_more m (effect m t who cmd)) t).feeds ≡ Some (grown f t.docs t.stamp (cond b (changes_by m t cmd) [])))
       (λ _. effect_found by number t who cmd f v e) (λ _. e)
 
-  history_found : (by number : ℕ) (history : List (Recorded (Order (Cmd W N P)))) (t : T) (f : Feed K I) → find_feed by number t.feeds ≡ Some f
+  pub history_found : (by number : ℕ) (history : List (Recorded (Order (Cmd W N P)))) (t : T) (f : Feed K I) → find_feed by number t.feeds ≡ Some f
       → AllByRecursion (λ (e : Recorded (Order (Cmd W N P))). e.by ≡ by → names_feed number e.cmd.cmd ≡ false) history
       → find_feed by number (replay (table_machine m) t history).feeds ≡ Some (grown f t.docs t.stamp (changes_from m t history))
   history_found by number [] t f e a = e

@@ -41,7 +41,7 @@ module _ {K I : Type 0} where
   low_filter b p (f ∷ fs) l = split (p f) (λ c. Low b (cond c (f ∷ filter p fs) (filter p fs))) (λ _. (l.0, low_filter b p fs l.1)) (λ _. low_filter b p fs l.1)
 
   -- a new feed is found behind those of lower numbers
-  find_new : (by : ℕ) (fs : List (Feed K I)) (f : Feed K I) (b : ℕ) → Low b fs → f.owner ≡ by → f.number ≡ suc b → find_feed by (suc b) (fs ++ f ∷ []) ≡ Some f
+  pub find_new : (by : ℕ) (fs : List (Feed K I)) (f : Feed K I) (b : ℕ) → Low b fs → f.owner ≡ by → f.number ≡ suc b → find_feed by (suc b) (fs ++ f ∷ []) ≡ Some f
   find_new by [] f b l o n = ap (λ c. cond c (Some f) None) (λ i. eq-eqb f.owner by o i && eq-eqb f.number (suc b) n i)
   find_new by (g ∷ gs) f b l o n =
       ap (λ c. cond (nat_eq g.owner by && c) (Some g) (find_feed by (suc b) (gs ++ f ∷ []))) (ne_eqb g.number (suc b) (λ e. absurd (omega (arith, l.0, e))))
@@ -50,6 +50,34 @@ module _ {K I : Type 0} where
       and_false : (x : Bool) → (x && false) ≡ false
       and_false true = refl
       and_false false = refl
+
+-- Along a history numbers of feeds stay up to the place.
+module _ {D J W N P M X K I F : Type 0} (m : Feeding D J W N P M X K I F) where
+  changes_low : (b : ℕ) (xs : List X) (t : Table D J K I) → Low b t.feeds → Low b (after_changes m t xs).feeds
+  changes_low b [] t h = h
+  changes_low b (x ∷ xs) t h = changes_low b xs (after_change m t x) (low_map b (notice m t.docs t.stamp x) (λ f. (same_pushes (m.size f.kept) f (map (λ i. (suc t.stamp, i)) (m.items f.kept t.docs x))).number) t.feeds h)
+
+  effect_low : (t : Table D J K I) (who : ℕ) (cmd : Cmd W N P) → Low t.place t.feeds → Low (suc (effect m t who cmd).place) (effect m t who cmd).feeds
+  effect_low t who (cmds.Write w) h = changes_low (suc (after_changes m t (m.changes t.docs t.indexes w)).place) (m.changes t.docs t.indexes w) t (low_more t.place _ t.feeds (omega (arith, changes_place m (m.changes t.docs t.indexes w) t)) h)
+  effect_low t who (cmds.Index j) h = low_more t.place (suc t.place) t.feeds (omega arith) h
+  effect_low t who (cmds.Subscribe p) h = opened (m.keep t.indexes p)
+    where
+      opened : (o : Option K) → Low (suc (opened_in m t who o).place) (opened_in m t who o).feeds
+      opened None = low_more t.place (suc t.place) t.feeds (omega arith) h
+      opened (Some k) = split (nat_lt (length t.feeds) m.most) (λ b. Low (suc (cond b (record t { feeds = t.feeds ++ new_feed m t who k ∷ [] }) t).place) (cond b (record t { feeds = t.feeds ++ new_feed m t who k ∷ [] }) t).feeds)
+          (λ _. all_append (λ (f : Feed K I). f.number ≤ suc t.place) t.feeds (new_feed m t who k ∷ []) (low_more t.place (suc t.place) t.feeds (omega arith) h) (omega arith, tt))
+          (λ _. low_more t.place (suc t.place) t.feeds (omega arith) h)
+  effect_low t who (cmds.Take feed max) h = low_map (suc t.place) (λ f. cond (is_of who feed f) (left_by m max f) f) (λ f. split (is_of who feed f) (λ b. (cond b (left_by m max f) f).number ≡ f.number) (λ _. refl) (λ _. refl)) t.feeds (low_more t.place (suc t.place) t.feeds (omega arith) h)
+  effect_low t who (cmds.Unsubscribe feed) h = low_filter (suc t.place) (λ f. not (is_of who feed f)) t.feeds (low_more t.place (suc t.place) t.feeds (omega arith) h)
+  effect_low t who cmds.Shut h = low_more t.place (suc t.place) t.feeds (omega arith) h
+  effect_low t who cmds.Sync h = low_more t.place (suc t.place) t.feeds (omega arith) h
+
+  pub after_low : (t : Table D J K I) (who : ℕ) (cmd : Cmd W N P) → Low t.place t.feeds → Low (after_cmd m t who cmd).place (after_cmd m t who cmd).feeds
+  after_low t who cmd h = split (adds m (answer m t who cmd)) (λ b. Low (cond b (one_more m (effect m t who cmd)) t).place (cond b (one_more m (effect m t who cmd)) t).feeds) (λ _. effect_low t who cmd h) (λ _. h)
+
+  pub replay_low : (t : Table D J K I) (es : List (Recorded (Order (Cmd W N P)))) → Low t.place t.feeds → Low (replay (table_machine m) t es).place (replay (table_machine m) t es).feeds
+  replay_low t [] h = h
+  replay_low t (e ∷ es) h = replay_low (after m t e.by e.cmd) es (after_low t e.by e.cmd.cmd h)
 
 module _ {D J W N P M X K I F : Type 0} (m : Feeding D J W N P M X K I F) (good : D → Type 0) (may : D → X → Type 0) (l : Folds m good may) where
   abbrev T : Type 0
@@ -66,25 +94,6 @@ module _ {D J W N P M X K I F : Type 0} (m : Feeding D J W N P M X K I F) (good 
     pub docs : good t.docs
     pub low : Low t.place t.feeds
 
-  changes_low : (b : ℕ) (xs : List X) (t : T) → Low b t.feeds → Low b (after_changes m t xs).feeds
-  changes_low b [] t h = h
-  changes_low b (x ∷ xs) t h = changes_low b xs (after_change m t x) (low_map b (notice m t.docs t.stamp x) (λ f. (same_pushes (m.size f.kept) f (map (λ i. (suc t.stamp, i)) (m.items f.kept t.docs x))).number) t.feeds h)
-
-  effect_low : (t : T) (who : ℕ) (cmd : Cmd W N P) → Low t.place t.feeds → Low (suc (effect m t who cmd).place) (effect m t who cmd).feeds
-  effect_low t who (cmds.Write w) h = changes_low (suc (after_changes m t (m.changes t.docs t.indexes w)).place) (m.changes t.docs t.indexes w) t (low_more t.place _ t.feeds (omega (arith, changes_place m (m.changes t.docs t.indexes w) t)) h)
-  effect_low t who (cmds.Index j) h = low_more t.place (suc t.place) t.feeds (omega arith) h
-  effect_low t who (cmds.Subscribe p) h = opened (m.keep t.indexes p)
-    where
-      opened : (o : Option K) → Low (suc (opened_in m t who o).place) (opened_in m t who o).feeds
-      opened None = low_more t.place (suc t.place) t.feeds (omega arith) h
-      opened (Some k) = split (nat_lt (length t.feeds) m.most) (λ b. Low (suc (cond b (record t { feeds = t.feeds ++ new_feed m t who k ∷ [] }) t).place) (cond b (record t { feeds = t.feeds ++ new_feed m t who k ∷ [] }) t).feeds)
-          (λ _. all_append (λ (f : Feed K I). f.number ≤ suc t.place) t.feeds (new_feed m t who k ∷ []) (low_more t.place (suc t.place) t.feeds (omega arith) h) (omega arith, tt))
-          (λ _. low_more t.place (suc t.place) t.feeds (omega arith) h)
-  effect_low t who (cmds.Take feed max) h = low_map (suc t.place) (λ f. cond (is_of who feed f) (left_by m max f) f) (λ f. split (is_of who feed f) (λ b. (cond b (left_by m max f) f).number ≡ f.number) (λ _. refl) (λ _. refl)) t.feeds (low_more t.place (suc t.place) t.feeds (omega arith) h)
-  effect_low t who (cmds.Unsubscribe feed) h = low_filter (suc t.place) (λ f. not (is_of who feed f)) t.feeds (low_more t.place (suc t.place) t.feeds (omega arith) h)
-  effect_low t who cmds.Shut h = low_more t.place (suc t.place) t.feeds (omega arith) h
-  effect_low t who cmds.Sync h = low_more t.place (suc t.place) t.feeds (omega arith) h
-
   changes_come : (t : T) (who : ℕ) (cmd : Cmd W N P) → good t.docs → Comes m may t.docs (changes_at m t who cmd)
   changes_come t who cmd g = split (adds m (answer m t who cmd)) (λ b. Comes m may t.docs (cond b (changes_by m t cmd) [])) (λ _. come cmd) (λ _. tt)
     where
@@ -100,7 +109,7 @@ module _ {D J W N P M X K I F : Type 0} (m : Feeding D J W N P M X K I F) (good 
   fine_after : (t : T) (who : ℕ) (cmd : Cmd W N P) → Fine t → Fine (after_cmd m t who cmd)
   fine_after t who cmd f = record {
     docs = subst good (sym (after_docs m t who cmd).0) (good_changed m good may l t.docs (changes_at m t who cmd) f.docs (changes_come t who cmd f.docs));
-    low = split (adds m (answer m t who cmd)) (λ b. Low (cond b (one_more m (effect m t who cmd)) t).place (cond b (one_more m (effect m t who cmd)) t).feeds) (λ _. effect_low t who cmd f.low) (λ _. f.low);
+    low = after_low m t who cmd f.low;
   }
 
   pub fine_replay : (t : T) (es : Entries) → Fine t → Fine (replay machine t es)

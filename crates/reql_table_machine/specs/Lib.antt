@@ -3,5 +3,6 @@ pub mod Feeds
 pub mod Fed
 pub mod Laws
 pub mod Skips
+pub mod Telling
 pub mod Sample
 pub mod Worked

@@ -2,6 +2,7 @@
 ghost use Rattle.reql_table_machine.specs.Feeding.{Feeding, Folds};
 ghost use Rattle.reql_table_machine.specs.Laws.{RefusedStays, DocsAtStamp, LaterDocs, FeedsFold};
 ghost use Rattle.reql_table_machine.specs.Skips.{OldestAreSkipped, SkipsCount, NothingIsSkipped, SkipsOfFullQueues, SkipsBetweenTakes};
+ghost use Rattle.reql_table_machine.specs.Telling.{TakesTellSkips, TakesLieInOrder};
 ghost use Rattle.reql_table_machine.specs.Sample.{one_number, Good, May};
 
 /// What a table's writes and feeds mean.
@@ -55,6 +56,16 @@ pub fn skips_of_full_queues<F: Meaning>()
     ensures room { NothingIsSkipped F.feeding }
     ensures full { SkipsOfFullQueues F.feeding }
     ensures between { SkipsBetweenTakes F.feeding }
+{}
+
+/// The answers of a feed's Takes tell what its queue skipped. Of what waits at a Take, which is what
+/// the Take before left and what came since, the oldest that have no place are gone: just these the
+/// answer tells, before the items that it gives of those behind them. So all that came to a feed is
+/// told once, in its order: as one of so many skipped, or in a batch. A Take that gives no batch finds
+/// nothing waiting, or leaves all of it where the history is full.
+pub fn takes_tell_skips<F: Meaning>()
+    ensures told { TakesTellSkips F.feeding }
+    ensures laid { TakesLieInOrder F.feeding }
 {}
 
 /// The laws of a kind of feed can be met: the feeds of a table of one number meet them.

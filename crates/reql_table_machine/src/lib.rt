@@ -7,7 +7,9 @@ mod rows;
 mod sample;
 
 pub use command::{Cmd, Look, Order, Reply, Said};
-pub use laws::{Meaning, feeds_fold, machine_laws, sample_folds, skips_of_full_queues};
+pub use laws::{
+    Meaning, feeds_fold, machine_laws, sample_folds, skips_of_full_queues, takes_tell_skips,
+};
 pub use reql_datum::Point;
 pub use rows::worked_rows;
 pub use sample::{Kept, OneNumber};

@@ -1,0 +1,5 @@
+use Rattle.reql_table_machine.proofs.Telling.{takes_tell_skips, takes_lie_in_order}
+use Rattle.reql_table_machine.proofs.laws.takes_tell_skips.Goals as goal
+
+pub returns : goal.returns
+returns g c = record { told = takes_tell_skips g.F.Meaning.feeding; laid = takes_lie_in_order g.F.Meaning.feeding }
