@@ -1,7 +1,9 @@
--- A user's acts on a table of documents are its acts on the machine of tables; so its feeds fold.
+-- A user's acts on a table of documents are its acts on the machine of tables; so its feeds fold, and their Takes tell what was skipped.
 use Rattle.std.proofs.Common.{◌≡◌, ℕ, ◌+◌, Bool, true, false, cond, List, [], ◌∷◌, ◌++◌, length, map, refl, sym, ap, subst, ◌∙◌, arith, length-append}
 use Rattle.std.specs.Prelude.{◌==◌}
 use Rattle.std.proofs.lemmas.List.{map-append, length-map}
+use Rattle.reql_datum.specs.Plain.{Plain}
+use Rattle.reql_write_law.specs.declared.command.Summary.{Summary}
 use Rattle.reql_write_law.specs.declared.command.WriteCmd.{WriteCmd}
 use Rattle.reql_shared.specs.Acts.{Act, Ran, Looked, Denied, place_of, entries_of, IsAnswered}
 use Rattle.reql_shared.specs.History.{own}
@@ -11,14 +13,17 @@ use Rattle.reql_shared.specs.declared.recorded.Recorded.{Recorded}
 use Rattle.reql_shared.proofs.Weaving.{woven_as}
 use Rattle.reql_table_machine.specs.Feeds.{adds}
 use Rattle.reql_table_machine.specs.Fed as fed
+use Rattle.reql_table_machine.specs.Fed.{Taking}
+use Rattle.reql_table_machine.specs.Telling as telling
 use Rattle.reql_table_machine.specs.declared.command.Cmd.{Cmd as Known}
 use Rattle.reql_table_machine.specs.declared.command.Order.{Order as Asked}
 use Rattle.reql_table_machine.proofs.Tables.{all_fed}
+use Rattle.reql_table_machine.proofs.Telling.{takes_tell_skips, takes_lie_in_order}
 use Rattle.reql_law.specs.Indexes.{IndexCmd}
-use Rattle.reql_law.specs.Laws.{History, Done, AreGood, May, known_act, FeedsFold}
+use Rattle.reql_law.specs.Laws.{History, Done, AreGood, May, known_act, FeedsFold, OfAllOpened, TellSkips, TakesTellSkips, LieInOrder, TakesLieInOrder}
 use Rattle.reql_law.specs.Machine.{State, Seen, known_order, known_entry, machine, reply, seen}
 use Rattle.reql_law.specs.Replies.{Answered}
-use Rattle.reql_law.specs.Table.{feeding}
+use Rattle.reql_law.specs.Table.{Held, feeding}
 use Rattle.reql_law.specs.declared.command.FeedSpec.{FeedSpec}
 use Rattle.reql_law.proofs.Folding.{kinds_fold}
 use Rattle.reql_law.proofs.Replays.{Entries, tables, beside, replay_is, adds_any}
@@ -83,14 +88,32 @@ woven_known s number at (a ∷ acts) history w =
           (ap (λ z. replay (tables s.most) s.table z) front) (ap (λ z. at + z) (sym (length-map all known_entry) ∙ ap length front)) here,
     )
 
+-- a user's acts after a history
+abbrev Begun : State → History → History → ℕ → List Done → Type 0
+Begun s before during by acts = Woven (tables s.most) (replay (tables s.most) s.table (map known_entry before)) by (length (map known_entry before)) (map known_act acts) (map known_entry during)
+
+begun : (s : State) (before during : History) (by : ℕ) (acts : List Done) → Woven machine (replay machine s before) by (length before) acts during → Begun s before during by acts
+begun s before during by acts w =
+    let start : Woven (tables s.most) (replay (tables s.most) s.table (map known_entry before)) by (length before) (map known_act acts) (map known_entry during) =
+    subst (λ (z : State). IsWoven z by (length before) acts during) (replay_is s before) (woven_known (replay machine s before) by (length before) acts during w) in
+    subst (λ k. Woven (tables s.most) (replay (tables s.most) s.table (map known_entry before)) by k (map known_act acts) (map known_entry during)) (sym (length-map before known_entry)) start
+
+parts_known : (before during later : History) → map known_entry (before ++ (during ++ later)) ≡ map known_entry before ++ (map known_entry during ++ map known_entry later)
+parts_known before during later = map-append known_entry before (during ++ later) ∙ ap (λ z. map known_entry before ++ z) (map-append known_entry during later)
+
 pub feeds_fold : FeedsFold
 feeds_fold s before during later by acts good none w =
-    let m : ℕ = s.most in
-    let start : Woven (tables m) (replay (tables m) s.table (map known_entry before)) by (length before) (map known_act acts) (map known_entry during) =
-    subst (λ (z : State). IsWoven z by (length before) acts during) (replay_is s before) (woven_known (replay machine s before) by (length before) acts during w) in
-    let at : Woven (tables m) (replay (tables m) s.table (map known_entry before)) by (length (map known_entry before)) (map known_act acts) (map known_entry during) =
-    subst (λ k. Woven (tables m) (replay (tables m) s.table (map known_entry before)) by k (map known_act acts) (map known_entry during)) (sym (length-map before known_entry)) start in
-    let whole : map known_entry (before ++ (during ++ later)) ≡ map known_entry before ++ (map known_entry during ++ map known_entry later) =
-    map-append known_entry before (during ++ later) ∙ ap (λ z. map known_entry before ++ z) (map-append known_entry during later) in
-    subst (λ z. fed.AllFed (feeding m) s.table z (map known_act acts)) (sym whole)
-    (all_fed (feeding m) AreGood May (kinds_fold m) s.table (map known_entry before) (map known_entry during) (map known_entry later) by (map known_act acts) good none at)
+    subst (λ z. fed.AllFed (feeding s.most) s.table z (map known_act acts)) (sym (parts_known before during later))
+    (all_fed (feeding s.most) AreGood May (kinds_fold s.most) s.table (map known_entry before) (map known_entry during) (map known_entry later) by (map known_act acts) good none (begun s before during by acts w))
+
+-- ---- the feeds that a user opens
+of_all_opened : (holds : ℕ → Held → List (ℕ × Plain) → List (Taking Summary Plain) → Type 0) → ((most : ℕ) → telling.OfAllOpened (feeding most) (holds most)) → OfAllOpened holds
+of_all_opened holds known s before during later by acts none w =
+    subst (λ z. telling.AllOpened (feeding s.most) (holds s.most) s.table z (map known_act acts)) (sym (parts_known before during later))
+    (known s.most s.table (map known_entry before) (map known_entry during) (map known_entry later) by (map known_act acts) none (begun s before during by acts w))
+
+pub takes_tell : TakesTellSkips
+takes_tell = of_all_opened TellSkips (λ most. takes_tell_skips (feeding most))
+
+pub takes_lie : TakesLieInOrder
+takes_lie = of_all_opened LieInOrder (λ most. takes_lie_in_order (feeding most))

@@ -1,11 +1,14 @@
 -- Laws of the table machine.
+use Rattle.std.specs.List.{AllByRecursion}
 use Rattle.std.specs.Prelude.{◌≡◌, ◌≤◌, ◌<◌, ◌^◌, ℕ, suc, ◌+◌, List, [], ◌∷◌, ◌++◌, length, map, take, true, false}
 use Rattle.reql_datum.specs.Members.{AreRising}
 use Rattle.reql_datum.specs.Order.{order}
+use Rattle.reql_datum.specs.Plain.{Plain}
 use Rattle.reql_memory.specs.Sorted.{AreRisingBy}
 use Rattle.reql_term.specs.Views.{Document}
 use Rattle.reql_write_law.specs.Treated.{Changed}
 use Rattle.reql_write_law.specs.Write.{write}
+use Rattle.reql_write_law.specs.declared.command.Summary.{Summary}
 use Rattle.reql_write_law.specs.declared.command.WriteCmd.{WriteCmd}
 use Rattle.reql_feed_law.specs.Feeds.{changed_by}
 use Rattle.reql_feed_law.specs.Moving.{AreNoNulls, IsNoNull}
@@ -16,12 +19,14 @@ use Rattle.reql_shared.specs.declared.engine.Snap.{Snap}
 use Rattle.reql_shared.specs.declared.recorded.Recorded.{Recorded}
 use Rattle.reql_table_machine.specs.Feeding.{Folds}
 use Rattle.reql_table_machine.specs.Fed as fed
+use Rattle.reql_table_machine.specs.Fed.{Taking}
+use Rattle.reql_table_machine.specs.Telling as telling
 use Rattle.reql_table_machine.specs.declared.command.Cmd.{Cmd as Known}
 use Rattle.reql_table_machine.specs.declared.command.Order.{Order as Asked}
 use Rattle.reql_law.specs.Indexes.{Indexes, IndexCmd}
 use Rattle.reql_law.specs.Machine.{State, Seen, known_order, known_entry, machine, after, reply, is_recorded}
 use Rattle.reql_law.specs.Replies.{Answered}
-use Rattle.reql_law.specs.Table.{DocumentTable, feeding, at_key}
+use Rattle.reql_law.specs.Table.{DocumentTable, Held, feeding, at_key}
 use Rattle.reql_law.specs.declared.command.FeedSpec.{FeedSpec}
 use Rattle.reql_law.specs.declared.command.Order.{Order}
 
@@ -117,3 +122,26 @@ abbrev pub FeedsFold : Type 0
 FeedsFold = (s : State) (before during later : History) (by : ℕ) (acts : List Done)
     → AreGood s.table.docs → s.table.feeds ≡ [] → Woven machine (replay machine s before) by (length before) acts during
     → AllFed s (before ++ (during ++ later)) acts
+
+-- ---- of each feed that a user opened by its acts along a history: what holds of its request, of all items that the changes after its opening append to it,
+-- and of its Takes until it is closed
+abbrev pub OfAllOpened : (ℕ → Held → List (ℕ × Plain) → List (Taking Summary Plain) → Type 0) → Type 0
+OfAllOpened holds = (s : State) (before during later : History) (by : ℕ) (acts : List Done)
+    → s.table.feeds ≡ [] → Woven machine (replay machine s before) by (length before) acts during
+    → telling.AllOpened (feeding s.most) (holds s.most) s.table (map known_entry (before ++ (during ++ later))) (map known_act acts)
+
+-- each Take's answer tells just what went of that which waited since the Take before: rules out a skip that is told of nothing that went, one that is not
+-- told, or told again by a later Take, and one that is told behind an item that came after it
+abbrev pub TellSkips : ℕ → Held → List (ℕ × Plain) → List (Taking Summary Plain) → Type 0
+TellSkips most h items ts = telling.AreTold (feeding most) h 0 [] items ts
+
+abbrev pub TakesTellSkips : Type 0
+TakesTellSkips = OfAllOpened TellSkips
+
+-- while no count is at its end, all that came is told in its order, each item as one of so many skipped or in a batch: rules out an item of which nothing is
+-- told, or twice
+abbrev pub LieInOrder : ℕ → Held → List (ℕ × Plain) → List (Taking Summary Plain) → Type 0
+LieInOrder most h items ts = AllByRecursion (λ (t : Taking Summary Plain). telling.IsCounted t) ts → telling.AreLaid (feeding most) h ts items
+
+abbrev pub TakesLieInOrder : Type 0
+TakesLieInOrder = OfAllOpened LieInOrder

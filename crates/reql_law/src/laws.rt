@@ -1,7 +1,7 @@
 // Laws of the table machine, each a clause of a function that does nothing.
 ghost use Rattle.reql_law.specs.Reading.{PointsAreRead, RangesAreRead, NamedRangesAreRead, LimitsAreRead, LimitsByKeyAreRead};
 ghost use Rattle.reql_law.specs.Terms.{PointsShowTheirTerms, RangesShowTheirTerms, LimitsShowTheirTerms};
-ghost use Rattle.reql_law.specs.Laws.{RefusedStays, RecordedFit, DocsAtStamp, StampCounts, LaterDocs, DocsStay, TablesStay, WritesLand, GoodStay, IndexesStay, MakingStays, KindsFold, FeedsFold};
+ghost use Rattle.reql_law.specs.Laws.{RefusedStays, RecordedFit, DocsAtStamp, StampCounts, LaterDocs, DocsStay, TablesStay, WritesLand, GoodStay, IndexesStay, MakingStays, KindsFold, FeedsFold, TakesTellSkips, TakesLieInOrder};
 
 /// A command that adds no entry leaves the table as it was, and one that does adds one to the place;
 /// places and stamps are numbers of a u64. The documents of a table are those after all changes of
@@ -32,6 +32,14 @@ pub fn feed_kinds_fold()
 /// over the documents of any moment up to which its answers are whole.
 pub fn feeds_of_histories_fold()
     ensures { FeedsFold }
+{}
+
+/// The answers of a feed's Takes tell what its queue skipped, for each feed that a user opened along a
+/// history: just what went of that which waited since the Take before, ahead of the items that were
+/// behind it; so all that its changes appended to it is told once, in its order.
+pub fn takes_tell_skips()
+    ensures told { TakesTellSkips }
+    ensures laid { TakesLieInOrder }
 {}
 
 /// Requests of feeds as they are planned are read for what they mean: GET of a key, a range shape by
