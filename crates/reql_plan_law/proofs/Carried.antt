@@ -27,19 +27,24 @@ use Rattle.reql_plan_law.proofs.Closing.{neither, all_planned, operation_becomes
 use Rattle.reql_plan_law.proofs.Opened.{feeds_are_read}
 use Rattle.reql_plan_law.proofs.Planned.{none_of, nothing_known, commands, parts_fit, IsFound, naming_said, looked_up, all_looked_up}
 
-abbrev pub SoundBy : Task → Forms → Type 0 → Type 0
-SoundBy task.Feed fs arms = are_planned fs ≡ true
-SoundBy task.Branch fs arms = arms
-SoundBy t fs arms = Unit {0}
+-- at the root of a term CHANGES stands over planned arguments, and below it there is none
+abbrev pub SoundBy : Task → Bool → Forms → Type 0 → Type 0
+SoundBy task.Feed true fs arms = are_planned fs ≡ true
+SoundBy task.Feed false fs arms = ⊥
+SoundBy task.Branch root fs arms = arms
+SoundBy t root fs arms = Unit {0}
 
 abbrev mutual
-  pub Sound : Form → Type 0
-  Sound (operation o fs ms) = SoundBy (task_of o) fs (AreSound fs)
-  Sound f = Unit {0}
+  pub SoundAt : Bool → Form → Type 0
+  SoundAt root (operation o fs ms) = SoundBy (task_of o) root fs (AreBelow fs)
+  SoundAt root f = Unit {0}
 
-  pub AreSound : Forms → Type 0
-  AreSound no_forms = Unit {0}
-  AreSound (form f fs) = Sound f × AreSound fs
+  pub AreBelow : Forms → Type 0
+  AreBelow no_forms = Unit {0}
+  AreBelow (form f fs) = SoundAt false f × AreBelow fs
+
+abbrev pub Sound : Form → Type 0
+Sound f = SoundAt true f
 
 -- ---- where CHANGES may not stand
 abbrev is_root : Place → Bool
@@ -78,119 +83,119 @@ own_none p o fs ms h =
     let b = none_of (unless (fits_task (task_of o) fs) _) _ a.1 in
     (none_of (unless (is_named (naming_of o) fs ms) _) (task_faults p (task_of o) fs ms) b.1).1
 
-by_below : (t : Task) (fs : Forms) → is_feed t ≡ false → AreSound fs → SoundBy t fs (AreSound fs)
-by_below task.Feed fs h arms = absurd (cc (h))
-by_below task.Branch fs h arms = arms
-by_below t fs h arms = tt
+by_below : (t : Task) (root : Bool) (fs : Forms) → is_feed t ≡ false → AreBelow fs → SoundBy t root fs (AreBelow fs)
+by_below task.Feed root fs h arms = absurd (cc (h))
+by_below task.Branch root fs h arms = arms
+by_below t root fs h arms = tt
 
 -- ---- what the rule of names says of a term
-found_sound : (g : Form) → IsFound g → Sound g
-found_sound g (inl x) = subst Sound (sym x.1) tt
-found_sound g (inr x) = subst Sound (sym x.1) tt
+found_sound : (root : Bool) (g : Form) → IsFound g → SoundAt root g
+found_sound root g (inl x) = subst (SoundAt root) (sym x.1) tt
+found_sound root g (inr x) = subst (SoundAt root) (sym x.1) tt
 
-command_task : (o : Op) (fs : Forms) (ms : NamedForms) → commands o ≡ true → Sound (operation o fs ms)
-command_task op.DbCreate fs ms h = tt
-command_task op.DbDrop fs ms h = tt
-command_task op.TableCreate fs ms h = tt
-command_task op.TableDrop fs ms h = tt
-command_task o fs ms h = absurd (cc (h))
+command_task : (root : Bool) (o : Op) (fs : Forms) (ms : NamedForms) → commands o ≡ true → SoundAt root (operation o fs ms)
+command_task root op.DbCreate fs ms h = tt
+command_task root op.DbDrop fs ms h = tt
+command_task root op.TableCreate fs ms h = tt
+command_task root op.TableDrop fs ms h = tt
+command_task root o fs ms h = absurd (cc (h))
 
 module _ (ns : Named) (db : Bytes) where
-  abbrev IsSound : Option Form → Type 0
-  IsSound None = Unit {0}
-  IsSound (Some g) = Sound g
+  abbrev IsSound : Bool → Option Form → Type 0
+  IsSound root None = Unit {0}
+  IsSound root (Some g) = SoundAt root g
 
-  value_sound : (x : Option Form) (o : Op) (fs : Forms) → by_naming ns db (naming_of o) fs ≡ Ok x → IsSound x
-  value_sound None o fs h = tt
-  value_sound (Some g) o fs h = found_sound g (naming_said ns db (naming_of o) fs (Some g) h)
+  value_sound : (root : Bool) (x : Option Form) (o : Op) (fs : Forms) → by_naming ns db (naming_of o) fs ≡ Ok x → IsSound root x
+  value_sound root None o fs h = tt
+  value_sound root (Some g) o fs h = found_sound root g (naming_said ns db (naming_of o) fs (Some g) h)
 
-  command_sound : (o : Op) (fs : Forms) (ms : NamedForms) (x : Option Form) → commands o ≡ true → command_answer ns db o fs ms ≡ Ok x → IsSound x
-  command_sound o fs ms x c h =
+  command_sound : (root : Bool) (o : Op) (fs : Forms) (ms : NamedForms) (x : Option Form) → commands o ≡ true → command_answer ns db o fs ms ≡ Ok x → IsSound root x
+  command_sound root o fs ms x c h =
       let a = then_ok (rewritten (value_rule ns db) (keyed ms)) (λ f. Ok (Some (with_options o fs f))) x h in
       let b = then_ok (named_rewritten (value_rule ns db) ms) (λ hs. Ok (keyed (named_of hs))) a.0 a.1 in
       let same : Some (with_options o fs (keyed (named_of b.0))) ≡ x =
       subst (λ f. Some (with_options o fs f) ≡ x) (sym (same_ok (keyed (named_of b.0)) a.0 b.2)) (same_ok (Some (with_options o fs a.0)) x a.2) in
-      subst IsSound same (command_task o fs (named_of b.0) c)
+      subst (IsSound root) same (command_task root o fs (named_of b.0) c)
 
-  rule_by : (b : Bool) (o : Op) (fs : Forms) (ms : NamedForms) (x : Option Form) → commands o ≡ b
-      → names.either b (command_answer ns db o fs ms) (by_naming ns db (naming_of o) fs) ≡ Ok x → IsSound x
-  rule_by true o fs ms x c h = command_sound o fs ms x c h
-  rule_by false o fs ms x c h = value_sound x o fs h
+  rule_by : (root : Bool) (b : Bool) (o : Op) (fs : Forms) (ms : NamedForms) (x : Option Form) → commands o ≡ b
+      → names.either b (command_answer ns db o fs ms) (by_naming ns db (naming_of o) fs) ≡ Ok x → IsSound root x
+  rule_by root true o fs ms x c h = command_sound root o fs ms x c h
+  rule_by root false o fs ms x c h = value_sound root x o fs h
 
-  rule_sound : (o : Op) (fs : Forms) (ms : NamedForms) (x : Option Form) → op_rule ns db o fs ms ≡ Ok x → IsSound x
+  rule_sound : (root : Bool) (o : Op) (fs : Forms) (ms : NamedForms) (x : Option Form) → op_rule ns db o fs ms ≡ Ok x → IsSound root x
   unfolding op_rule
-  rule_sound o fs ms x h = rule_by (commands o) o fs ms x refl h
+  rule_sound root o fs ms x h = rule_by root (commands o) o fs ms x refl h
 
   -- the parts of an operation as they are looked up
-  abbrev ByParts : Op → Forms → Form → Type 0
-  ByParts o fs g = (gs : List Form) (hs : List (Bytes × Form)) → all_rewritten (names_rule ns db) fs ≡ Ok gs
-      → operation o (forms_of gs) (named_of hs) ≡ g → SoundBy (task_of o) (forms_of gs) (AreSound (forms_of gs))
+  abbrev ByParts : Bool → Op → Forms → Form → Type 0
+  ByParts root o fs g = (gs : List Form) (hs : List (Bytes × Form)) → all_rewritten (names_rule ns db) fs ≡ Ok gs
+      → operation o (forms_of gs) (named_of hs) ≡ g → SoundBy (task_of o) root (forms_of gs) (AreBelow (forms_of gs))
 
-  operation_sound : (o : Op) (fs : Forms) (ms : NamedForms) (g : Form) (x : Option Form) → op_rule ns db o fs ms ≡ Ok x → ByParts o fs g
-      → or_else x (looked_up ns db o fs ms) ≡ Ok g → Sound g
-  operation_sound o fs ms g (Some f) said parts h = subst Sound (same_ok f g h) (rule_sound o fs ms (Some f) said)
-  operation_sound o fs ms g None said parts h =
+  operation_sound : (root : Bool) (o : Op) (fs : Forms) (ms : NamedForms) (g : Form) (x : Option Form) → op_rule ns db o fs ms ≡ Ok x → ByParts root o fs g
+      → or_else x (looked_up ns db o fs ms) ≡ Ok g → SoundAt root g
+  operation_sound root o fs ms g (Some f) said parts h = subst (SoundAt root) (same_ok f g h) (rule_sound root o fs ms (Some f) said)
+  operation_sound root o fs ms g None said parts h =
       let a = then_ok (all_rewritten (names_rule ns db) fs) (λ gs. named_rewritten (names_rule ns db) ms >>= λ hs. Ok
       (operation o (forms_of gs) (named_of hs))) g h in
       let b = then_ok (named_rewritten (names_rule ns db) ms) (λ hs. Ok (operation o (forms_of a.0) (named_of hs))) g a.2 in
       let same = same_ok (operation o (forms_of a.0) (named_of b.0)) g b.2 in
-      subst Sound same (parts a.0 b.0 a.1 same)
+      subst (SoundAt root) same (parts a.0 b.0 a.1 same)
 
-  operation_by : (o : Op) (fs : Forms) (ms : NamedForms) (g : Form) → ByParts o fs g → rewritten (names_rule ns db) (operation o fs ms) ≡ Ok g
-      → Sound g
-  operation_by o fs ms g parts h =
+  operation_by : (root : Bool) (o : Op) (fs : Forms) (ms : NamedForms) (g : Form) → ByParts root o fs g → rewritten (names_rule ns db) (operation o fs ms) ≡ Ok g
+      → SoundAt root g
+  operation_by root o fs ms g parts h =
       let a = then_ok (op_rule ns db o fs ms) (λ x. or_else x (looked_up ns db o fs ms)) g h in
-      operation_sound o fs ms g a.0 a.1 parts a.2
+      operation_sound root o fs ms g a.0 a.1 parts a.2
 
   -- what is no operation stays none
-  plain_sound : (f g : Form) → ((o : Op) (fs : Forms) (ms : NamedForms) → operation o fs ms ≡ f → Sound g) → rewritten (names_rule ns db) f ≡ Ok g
-      → Sound g
-  plain_sound (literal d) g by h = subst Sound (same_ok (literal d) g h) tt
-  plain_sound (several fs) g by h =
+  plain_sound : (root : Bool) (f g : Form) → ((o : Op) (fs : Forms) (ms : NamedForms) → operation o fs ms ≡ f → SoundAt root g) → rewritten (names_rule ns db) f ≡ Ok g
+      → SoundAt root g
+  plain_sound root (literal d) g by h = subst (SoundAt root) (same_ok (literal d) g h) tt
+  plain_sound root (several fs) g by h =
       let a = then_ok (all_rewritten (names_rule ns db) fs) (λ gs. Ok (several (forms_of gs))) g h in
-      subst Sound (same_ok (several (forms_of a.0)) g a.2) tt
-  plain_sound (keyed ms) g by h =
+      subst (SoundAt root) (same_ok (several (forms_of a.0)) g a.2) tt
+  plain_sound root (keyed ms) g by h =
       let a = then_ok (named_rewritten (names_rule ns db) ms) (λ hs. Ok (keyed (named_of hs))) g h in
-      subst Sound (same_ok (keyed (named_of a.0)) g a.2) tt
-  plain_sound (variable n) g by h = subst Sound (same_ok (variable n) g h) tt
-  plain_sound implicit g by h = subst Sound (same_ok implicit g h) tt
-  plain_sound (function ids f) g by h =
+      subst (SoundAt root) (same_ok (keyed (named_of a.0)) g a.2) tt
+  plain_sound root (variable n) g by h = subst (SoundAt root) (same_ok (variable n) g h) tt
+  plain_sound root implicit g by h = subst (SoundAt root) (same_ok implicit g h) tt
+  plain_sound root (function ids f) g by h =
       let a = then_ok (rewritten (names_rule ns db) f) (λ b. Ok (function ids b)) g h in
-      subst Sound (same_ok (function ids a.0) g a.2) tt
-  plain_sound (slot n) g by h = subst Sound (same_ok (slot n) g h) tt
-  plain_sound (operation o fs ms) g by h = by o fs ms refl
+      subst (SoundAt root) (same_ok (function ids a.0) g a.2) tt
+  plain_sound root (slot n) g by h = subst (SoundAt root) (same_ok (slot n) g h) tt
+  plain_sound root (operation o fs ms) g by h = by o fs ms refl
 
   -- below the root there is no CHANGES
   mutual
-    below_sound : (a : Around) (f g : Form) → is_root a.place ≡ false → faults a f ≡ [] → rewritten (names_rule ns db) f ≡ Ok g → Sound g
+    below_sound : (a : Around) (f g : Form) → is_root a.place ≡ false → faults a f ≡ [] → rewritten (names_rule ns db) f ≡ Ok g → SoundAt false g
     below_sound a (operation o fs ms) g r none h =
         let p = none_of (own a.place o fs ms) (part_faults a (task_of o) (count fs) 0 fs ++ named_faults (faults.at place.Inside a) ms) none in
         let q = none_of (part_faults a (task_of o) (count fs) 0 fs) (named_faults (faults.at place.Inside a) ms) p.1 in
-        operation_by o fs ms g (λ gs hs e same. by_below (task_of o) (forms_of gs)
+        operation_by false o fs ms g (λ gs hs e same. by_below (task_of o) false (forms_of gs)
         (no_feed a.place (task_of o) fs ms r (own_none a.place o fs ms p.0)) (parts_sound a (task_of o) (count fs) 0 fs gs q.0 e)) h
-    below_sound a (literal d) g r none h = plain_sound (literal d) g (λ o fs ms e. absurd (cc (e))) h
-    below_sound a (several fs) g r none h = plain_sound (several fs) g (λ o gs ms e. absurd (cc (e))) h
-    below_sound a (keyed ms) g r none h = plain_sound (keyed ms) g (λ o fs ns e. absurd (cc (e))) h
-    below_sound a (variable n) g r none h = plain_sound (variable n) g (λ o fs ms e. absurd (cc (e))) h
-    below_sound a implicit g r none h = plain_sound implicit g (λ o fs ms e. absurd (cc (e))) h
-    below_sound a (function ids f) g r none h = plain_sound (function ids f) g (λ o fs ms e. absurd (cc (e))) h
-    below_sound a (slot n) g r none h = plain_sound (slot n) g (λ o fs ms e. absurd (cc (e))) h
+    below_sound a (literal d) g r none h = plain_sound false (literal d) g (λ o fs ms e. absurd (cc (e))) h
+    below_sound a (several fs) g r none h = plain_sound false (several fs) g (λ o gs ms e. absurd (cc (e))) h
+    below_sound a (keyed ms) g r none h = plain_sound false (keyed ms) g (λ o fs ns e. absurd (cc (e))) h
+    below_sound a (variable n) g r none h = plain_sound false (variable n) g (λ o fs ms e. absurd (cc (e))) h
+    below_sound a implicit g r none h = plain_sound false implicit g (λ o fs ms e. absurd (cc (e))) h
+    below_sound a (function ids f) g r none h = plain_sound false (function ids f) g (λ o fs ms e. absurd (cc (e))) h
+    below_sound a (slot n) g r none h = plain_sound false (slot n) g (λ o fs ms e. absurd (cc (e))) h
 
     parts_sound : (a : Around) (t : Task) (n i : ℕ) (fs : Forms) (gs : List Form) → part_faults a t n i fs ≡ []
-        → all_rewritten (names_rule ns db) fs ≡ Ok gs → AreSound (forms_of gs)
-    parts_sound a t n i no_forms gs none h = subst (λ x. AreSound (forms_of x)) (same_ok [] gs h) tt
+        → all_rewritten (names_rule ns db) fs ≡ Ok gs → AreBelow (forms_of gs)
+    parts_sound a t n i no_forms gs none h = subst (λ x. AreBelow (forms_of x)) (same_ok [] gs h) tt
     parts_sound a t n i (form f fs) gs none h =
         let p = none_of (faults (faults.at (place_at a.place t i n) a) f) (part_faults a t n (i + 1) fs) none in
         let x = then_ok (rewritten (names_rule ns db) f) (λ g. all_rewritten (names_rule ns db) fs >>= λ rest. Ok (g ∷ rest)) gs h in
         let y = then_ok (all_rewritten (names_rule ns db) fs) (λ rest. Ok (x.0 ∷ rest)) gs x.2 in
-        subst (λ z. AreSound (forms_of z)) (same_ok (x.0 ∷ y.0) gs y.2)
+        subst (λ z. AreBelow (forms_of z)) (same_ok (x.0 ∷ y.0) gs y.2)
         (below_sound (faults.at (place_at a.place t i n) a) f x.0 (below a.place t i n) p.0 x.1, parts_sound a t n (i + 1) fs y.0 p.1 y.1)
 
   -- ---- at the root CHANGES stands over planned arguments
   abbrev RootBy : Op → Type 0
   RootBy o = (fs : Forms) (ms : NamedForms) (gs : List Form) (hs : List (Bytes × Form)) → is_asked (operation o fs ms) ≡ true
       → faults around_root (operation o fs ms) ≡ [] → all_rewritten (names_rule ns db) fs ≡ Ok gs
-      → leaks false (operation o (forms_of gs) (named_of hs)) ≡ false → SoundBy (task_of o) (forms_of gs) (AreSound (forms_of gs))
+      → leaks false (operation o (forms_of gs) (named_of hs)) ≡ false → SoundBy (task_of o) true (forms_of gs) (AreBelow (forms_of gs))
 
   changes_by : RootBy op.Changes
   changes_by fs ms gs hs asked none e free =
@@ -208,7 +213,7 @@ module _ (ns : Named) (db : Bytes) where
       let p = none_of (own place.Root o fs ms) (part_faults around_root (task_of o) (count fs) 0 fs ++ named_faults
       (faults.at place.Inside around_root) ms) none in
       let q = none_of (part_faults around_root (task_of o) (count fs) 0 fs) (named_faults (faults.at place.Inside around_root) ms) p.1 in
-      by_below (task_of o) (forms_of gs) other (parts_sound around_root (task_of o) (count fs) 0 fs gs q.0 e)
+      by_below (task_of o) true (forms_of gs) other (parts_sound around_root (task_of o) (count fs) 0 fs gs q.0 e)
 
   root_by : (o : Op) → RootBy o
   root_by op.Changes = changes_by
@@ -219,11 +224,11 @@ module _ (ns : Named) (db : Bytes) where
 
   operation_root : (o : Op) (fs : Forms) (ms : NamedForms) (g : Form) → RootSound (operation o fs ms) g
   operation_root o fs ms g asked none h free =
-      operation_by o fs ms g (λ gs hs e same. root_by o fs ms gs hs asked none e (subst (λ z. leaks false z ≡ false) (sym same) free)) h
+      operation_by true o fs ms g (λ gs hs e same. root_by o fs ms gs hs asked none e (subst (λ z. leaks false z ≡ false) (sym same) free)) h
 
   pub root_sound : (f g : Form) → RootSound f g
   root_sound f g asked none h free =
-      plain_sound f g (λ o fs ms same. subst (λ z. RootSound z g) same (operation_root o fs ms g) asked none h free) h
+      plain_sound true f g (λ o fs ms same. subst (λ z. RootSound z g) same (operation_root o fs ms g) asked none h free) h
 
 -- a term that has a plan has no fault
 no_faults : (es : List CompileFault) → first_fault es ≡ None → es ≡ []
@@ -236,40 +241,41 @@ resolved_sound ns db f g asked none h free = root_sound ns db f g asked (no_faul
 
 -- ---- with a moment in the place of NOW
 module _ (moment : ℤ) where
-  by_then : (t : Task) (fs : Forms) (gs : List Form) → SoundBy t fs (AreSound fs) → all_rewritten (now_rule moment) fs ≡ Ok gs
-      → (AreSound fs → AreSound (forms_of gs)) → SoundBy t (forms_of gs) (AreSound (forms_of gs))
-  by_then task.Feed fs gs s e arms = all_planned_then moment fs gs s e
-  by_then task.Branch fs gs s e arms = arms s
-  by_then t fs gs s e arms = tt
+  by_then : (t : Task) (root : Bool) (fs : Forms) (gs : List Form) → SoundBy t root fs (AreBelow fs) → all_rewritten (now_rule moment) fs ≡ Ok gs
+      → (AreBelow fs → AreBelow (forms_of gs)) → SoundBy t root (forms_of gs) (AreBelow (forms_of gs))
+  by_then task.Feed true fs gs s e arms = all_planned_then moment fs gs s e
+  by_then task.Feed false fs gs s e arms = absurd s
+  by_then task.Branch root fs gs s e arms = arms s
+  by_then t root fs gs s e arms = tt
 
   mutual
-    pub sound_then : (f g : Form) → Sound f → rewritten (now_rule moment) f ≡ Ok g → Sound g
-    sound_then (operation o fs ms) g s h =
-        operation_becomes moment Sound (is_now o) o fs ms g tt (λ gs hs d e. by_then (task_of o) fs gs s d (λ arms. all_sound_then fs gs arms d)) h
-    sound_then (literal d) g s h = subst Sound (same_ok (literal d) g h) tt
-    sound_then (several fs) g s h =
+    pub sound_then : (root : Bool) (f g : Form) → SoundAt root f → rewritten (now_rule moment) f ≡ Ok g → SoundAt root g
+    sound_then root (operation o fs ms) g s h =
+        operation_becomes moment (SoundAt root) (is_now o) o fs ms g tt (λ gs hs d e. by_then (task_of o) root fs gs s d (λ arms. all_sound_then fs gs arms d)) h
+    sound_then root (literal d) g s h = subst (SoundAt root) (same_ok (literal d) g h) tt
+    sound_then root (several fs) g s h =
         let a = then_ok (all_rewritten (now_rule moment) fs) (λ gs. Ok (several (forms_of gs))) g h in
-        subst Sound (same_ok (several (forms_of a.0)) g a.2) tt
-    sound_then (keyed ms) g s h =
+        subst (SoundAt root) (same_ok (several (forms_of a.0)) g a.2) tt
+    sound_then root (keyed ms) g s h =
         let a = then_ok (named_rewritten (now_rule moment) ms) (λ hs. Ok (keyed (named_of hs))) g h in
-        subst Sound (same_ok (keyed (named_of a.0)) g a.2) tt
-    sound_then (variable n) g s h = subst Sound (same_ok (variable n) g h) tt
-    sound_then implicit g s h = subst Sound (same_ok implicit g h) tt
-    sound_then (function ids f) g s h =
+        subst (SoundAt root) (same_ok (keyed (named_of a.0)) g a.2) tt
+    sound_then root (variable n) g s h = subst (SoundAt root) (same_ok (variable n) g h) tt
+    sound_then root implicit g s h = subst (SoundAt root) (same_ok implicit g h) tt
+    sound_then root (function ids f) g s h =
         let a = then_ok (rewritten (now_rule moment) f) (λ b. Ok (function ids b)) g h in
-        subst Sound (same_ok (function ids a.0) g a.2) tt
-    sound_then (slot n) g s h = subst Sound (same_ok (slot n) g h) tt
+        subst (SoundAt root) (same_ok (function ids a.0) g a.2) tt
+    sound_then root (slot n) g s h = subst (SoundAt root) (same_ok (slot n) g h) tt
 
-    all_sound_then : (fs : Forms) (gs : List Form) → AreSound fs → all_rewritten (now_rule moment) fs ≡ Ok gs → AreSound (forms_of gs)
-    all_sound_then no_forms gs s h = subst (λ x. AreSound (forms_of x)) (same_ok [] gs h) tt
+    all_sound_then : (fs : Forms) (gs : List Form) → AreBelow fs → all_rewritten (now_rule moment) fs ≡ Ok gs → AreBelow (forms_of gs)
+    all_sound_then no_forms gs s h = subst (λ x. AreBelow (forms_of x)) (same_ok [] gs h) tt
     all_sound_then (form f fs) gs s h =
         let a = then_ok (rewritten (now_rule moment) f) (λ g. all_rewritten (now_rule moment) fs >>= λ rest. Ok (g ∷ rest)) gs h in
         let b = then_ok (all_rewritten (now_rule moment) fs) (λ rest. Ok (a.0 ∷ rest)) gs a.2 in
-        subst (λ x. AreSound (forms_of x)) (same_ok (a.0 ∷ b.0) gs b.2) (sound_then f a.0 s.0 a.1, all_sound_then fs b.0 s.1 b.1)
+        subst (λ x. AreBelow (forms_of x)) (same_ok (a.0 ∷ b.0) gs b.2) (sound_then false f a.0 s.0 a.1, all_sound_then fs b.0 s.1 b.1)
 
-time_sound : (moment : Option ℤ) (f g : Form) → Sound f → at_time moment f ≡ Ok g → Sound g
+pub time_sound : (moment : Option ℤ) (f g : Form) → Sound f → at_time moment f ≡ Ok g → Sound g
 time_sound None f g s h = subst Sound (same_ok f g h) s
-time_sound (Some n) f g s h = sound_then n f g s h
+time_sound (Some n) f g s h = sound_then n true f g s h
 
 leak_free : (b : Bool) (f g : Form) → unless_leaks b f ≡ Ok g → (b ≡ false) × (f ≡ g)
 leak_free true f g h = absurd (cc (h))

@@ -11,5 +11,6 @@ pub mod Carried
 pub mod Opens
 pub mod Unsent
 pub mod Theirs
+pub mod Asked
 pub mod Settling
 pub mod Stacked

@@ -55,27 +55,26 @@ use Rattle.reql_plan_law.specs.Settled.{there, meant_of, datum_of, sequence_of}
 use Rattle.reql_plan_law.specs.Summed.{added, nothing_done}
 use Rattle.reql_plan_law.specs.Texts.{undetermined, too_many_cursors}
 use Rattle.reql_plan_law.specs.Writes.{prepared, with_keys}
-use Rattle.reql_plan_law.proofs.Carried.{Sound, AreSound, SoundBy, resolved_sound, sound_then}
+use Rattle.reql_plan_law.proofs.Carried.{Sound, SoundAt, AreBelow, SoundBy, resolved_sound, sound_then}
 use Rattle.reql_plan_law.proofs.Opened.{feeds_are_read}
 
--- What holds of every opening of CHANGES with planned arguments, where these names are known, holds of every feed that is asked for.
-module _ (known : Named) (P : ℕ → FeedSpec → Type 0)
-    (all : (e : Held) (fs : Forms) (ms : NamedForms) (x : Feeding) → e.names ≡ known → are_planned fs ≡ true → feeding e fs ms ≡ Ok x → AllByRecursion (λ o. P o.slot o.spec) x.openings) where
+-- What is so of every feed that is asked for.
+module _ (P : ℕ → FeedSpec → Type 0) where
   -- a feed that is asked for on a slot is such a one
-  abbrev IsFollowed : ℕ → Cmd → Type 0
+  abbrev pub IsFollowed : ℕ → Cmd → Type 0
   IsFollowed n (cmds.Subscribe spec) = P n spec
   IsFollowed n c = Unit {0}
 
-  abbrev Follows : Ask → Type 0
+  abbrev pub Follows : Ask → Type 0
   Follows (run n order) = IsFollowed n order.cmd
   Follows q = Unit {0}
 
   -- at each move of a request, whatever it is answered
-  abbrev Always : Request → Type 0
+  abbrev pub Always : Request → Type 0
   Always (ends o) = Unit {0}
   Always (asks q on) = Follows q × ((h : Heard) → Always (on h))
 
-  abbrev Keeps : {A : Type 0} → Moves A → Type 0
+  abbrev pub Keeps : {A : Type 0} → Moves A → Type 0
   Keeps {A} m = (on : A → Request) → ((a : A) → Always (on a)) → Always (m on)
 
   keeps_from : {A : Type 0} (x : Answer A) → Keeps (from x)
@@ -87,7 +86,7 @@ module _ (known : Named) (P : ℕ → FeedSpec → Type 0)
   from_ok (Ok a) on k = k a refl
   from_ok (Err e) on k = tt
 
-  keeps_cond : {A : Type 0} (b : Bool) (m n : Moves A) → Keeps m → Keeps n → Keeps (cond b m n)
+  pub keeps_cond : {A : Type 0} (b : Bool) (m n : Moves A) → Keeps m → Keeps n → Keeps (cond b m n)
   keeps_cond true m n km kn on k = km on k
   keeps_cond false m n km kn on k = kn on k
 
@@ -198,7 +197,7 @@ module _ (known : Named) (P : ℕ → FeedSpec → Type 0)
   keeps_write : (e : Held) (f : Form) → Keeps (write e f)
   keeps_write e f on k = keeps_from (prepared e f) (λ p. run_write e p [] p.rolls on) (λ p. keeps_run_write e p [] p.rolls on k)
 
-  keeps_wrote : (e : Held) (f : Form) → Keeps (wrote e f)
+  pub keeps_wrote : (e : Held) (f : Form) → Keeps (wrote e f)
   keeps_wrote e f on k = keeps_write e f _ (λ s. k _)
 
   keeps_round : (e : Held) (id : ℕ) (d : Plain) (total : Summary) (ws : List Form) → Keeps (round e id d total ws)
@@ -221,7 +220,7 @@ module _ (known : Named) (P : ℕ → FeedSpec → Type 0)
   keeps_each (slot n) on k = tt
   keeps_each (operation o fs ms) on k = tt
 
-  keeps_for_each : (e : Held) (fs : Forms) → Keeps (for_each e fs)
+  pub keeps_for_each : (e : Held) (fs : Forms) → Keeps (for_each e fs)
   keeps_for_each e fs on k = keeps_from (there (first fs)) _
       (λ f. keeps_from (sequence_of e.world f) _
       (λ ds. keeps_from (there (second fs)) _
@@ -252,7 +251,7 @@ module _ (known : Named) (P : ℕ → FeedSpec → Type 0)
   keeps_change e c (changed r) on k = keeps_changed e c r.said on k
   keeps_change e c (rolled bs) on k = tt
 
-  keeps_catalogue : (e : Held) (o : Op) (fs : Forms) (ms : NamedForms) → Keeps (change_catalogue e o fs ms)
+  pub keeps_catalogue : (e : Held) (o : Op) (fs : Forms) (ms : NamedForms) → Keeps (change_catalogue e o fs ms)
   keeps_catalogue e o fs ms on k = keeps_from (cat_command e o fs ms) _ (λ c. (tt, λ h. keeps_change e c h on k))
 
   no_feed : (n : ℕ) (c : TableCmd) → IsFollowed n (cmd_of c)
@@ -275,12 +274,12 @@ module _ (known : Named) (P : ℕ → FeedSpec → Type 0)
   keeps_table_said c said.Closed on k = tt
   keeps_table_said c said.Gone on k = tt
 
-  keeps_table : (e : Held) (o : Op) (fs : Forms) (ms : NamedForms) → Keeps (change_table e o fs ms)
+  pub keeps_table : (e : Held) (o : Op) (fs : Forms) (ms : NamedForms) → Keeps (change_table e o fs ms)
   keeps_table e o fs ms on k = keeps_from (table_command e o fs ms) _
       (λ c. keeps_command e c.slot (cmd_of c.cmd) (no_feed c.slot c.cmd) (λ s. table_said c s on) (λ s. keeps_table_said c s on k))
 
   -- ---- feeds
-  keeps_closing : {A : Type 0} (e : Held) (why : Reason) (os : List Open) (on : A → Request) → Always (closing e why os on)
+  pub keeps_closing : {A : Type 0} (e : Held) (why : Reason) (os : List Open) (on : A → Request) → Always (closing e why os on)
   keeps_closing e why [] on = tt
   keeps_closing e why (o ∷ os) on = (tt, λ h. keeps_closing e why os on)
 
@@ -321,73 +320,48 @@ module _ (known : Named) (P : ℕ → FeedSpec → Type 0)
   keeps_opens : (e : Held) (f : Feeding) → AllByRecursion (λ o. P o.slot o.spec) f.openings → Keeps (opens e f)
   keeps_opens e f all on k = keeps_subscribed e [] f.openings all _ (λ os. k _)
 
-  keeps_changes : (e : Held) (fs : Forms) (ms : NamedForms) → e.names ≡ known → are_planned fs ≡ true → Keeps (changes e fs ms)
-  keeps_changes e fs ms own planned on k = from_ok (feeding e fs ms) _
-      (λ f same. keeps_cond e.setting.noreply (give unsent) (cond (has_room e.setting) (opens e f) (refuse too_many_cursors)) (λ q j. j unsent)
-      (keeps_cond (has_room e.setting) (opens e f) (refuse too_many_cursors) (keeps_opens e f (all e fs ms f own planned same)) (λ q j. tt)) on
-      k)
-
-  -- ---- values, and what stands at the root
+  -- ---- values, and what stands below the root: there no feed is asked for
   keeps_shown_as : (e : Held) (s : Shown) → Keeps (shown_as e s)
   keeps_shown_as e (values.atom d) on k = k _
   keeps_shown_as e (values.groups gs) on k = k _
   keeps_shown_as e (values.sequence ds) on k = keeps_cond (fits_in e ds) (give (sequence ds)) (refuse too_many_cursors) (λ q j. j (sequence ds))
       (λ q j. tt) on k
 
-  keeps_shown : (e : Held) (f : Form) → Keeps (shown e f)
+  pub keeps_shown : (e : Held) (f : Form) → Keeps (shown e f)
   keeps_shown e f on k = keeps_from (meant_of e.world f) _ (λ m. keeps_from (values.shown e.world m) _ (λ s. keeps_shown_as e s on k))
 
-  keeps_task : (e : Held) (t : Task) (o : Op) (fs : Forms) (ms : NamedForms) (arms : Moves Outcome) → e.names ≡ known → SoundBy t fs (AreSound fs)
-      → (AreSound fs → Keeps arms) → Keeps (by_task e t o fs ms arms)
-  keeps_task e task.Value o fs ms arms own s ka on k = keeps_shown e (operation o fs ms) on k
-  keeps_task e task.Branch o fs ms arms own s ka on k = keeps_cond (any_command fs) arms (shown e (operation o fs ms)) (ka s)
+  keeps_task : (e : Held) (t : Task) (o : Op) (fs : Forms) (ms : NamedForms) (arms : Moves Outcome) → SoundBy t false fs (AreBelow fs)
+      → (AreBelow fs → Keeps arms) → Keeps (by_task e t o fs ms arms)
+  keeps_task e task.Value o fs ms arms s ka on k = keeps_shown e (operation o fs ms) on k
+  keeps_task e task.Branch o fs ms arms s ka on k = keeps_cond (any_command fs) arms (shown e (operation o fs ms)) (ka s)
       (keeps_shown e (operation o fs ms)) on k
-  keeps_task e task.ForEach o fs ms arms own s ka on k = keeps_for_each e fs on k
-  keeps_task e task.Write o fs ms arms own s ka on k = keeps_wrote e (operation o fs ms) on k
-  keeps_task e task.Catalogue o fs ms arms own s ka on k = keeps_catalogue e o fs ms on k
-  keeps_task e task.Index o fs ms arms own s ka on k = keeps_table e o fs ms on k
-  keeps_task e task.Sync o fs ms arms own s ka on k = keeps_table e o fs ms on k
-  keeps_task e task.Feed o fs ms arms own s ka on k = keeps_changes e fs ms own s on k
+  keeps_task e task.ForEach o fs ms arms s ka on k = keeps_for_each e fs on k
+  keeps_task e task.Write o fs ms arms s ka on k = keeps_wrote e (operation o fs ms) on k
+  keeps_task e task.Catalogue o fs ms arms s ka on k = keeps_catalogue e o fs ms on k
+  keeps_task e task.Index o fs ms arms s ka on k = keeps_table e o fs ms on k
+  keeps_task e task.Sync o fs ms arms s ka on k = keeps_table e o fs ms on k
+  keeps_task e task.Feed o fs ms arms s ka on k = absurd s
 
   mutual
-    keeps_carried : (e : Held) (f : Form) → e.names ≡ known → Sound f → Keeps (carried e f)
-    keeps_carried e (literal d) own s on k = keeps_shown e (literal d) on k
-    keeps_carried e (several fs) own s on k = keeps_shown e (several fs) on k
-    keeps_carried e (keyed ms) own s on k = keeps_shown e (keyed ms) on k
-    keeps_carried e (variable n) own s on k = keeps_shown e (variable n) on k
-    keeps_carried e implicit own s on k = keeps_shown e implicit on k
-    keeps_carried e (function ids f) own s on k = keeps_shown e (function ids f) on k
-    keeps_carried e (slot n) own s on k = keeps_shown e (slot n) on k
-    keeps_carried e (operation o fs ms) own s on k = keeps_task e (task_of o) o fs ms (branched e fs) own s (λ arms. keeps_branched e fs own arms) on k
+    keeps_below : (e : Held) (f : Form) → SoundAt false f → Keeps (carried e f)
+    keeps_below e (literal d) s on k = keeps_shown e (literal d) on k
+    keeps_below e (several fs) s on k = keeps_shown e (several fs) on k
+    keeps_below e (keyed ms) s on k = keeps_shown e (keyed ms) on k
+    keeps_below e (variable n) s on k = keeps_shown e (variable n) on k
+    keeps_below e implicit s on k = keeps_shown e implicit on k
+    keeps_below e (function ids f) s on k = keeps_shown e (function ids f) on k
+    keeps_below e (slot n) s on k = keeps_shown e (slot n) on k
+    keeps_below e (operation o fs ms) s on k = keeps_task e (task_of o) o fs ms (branched e fs) s (λ arms. keeps_branched e fs arms) on k
 
-    keeps_branched : (e : Held) (fs : Forms) → e.names ≡ known → AreSound fs → Keeps (branched e fs)
-    keeps_branched e no_forms own s on k = tt
-    keeps_branched e (form f no_forms) own s on k = keeps_carried e f own s.0 on k
-    keeps_branched e (form f (form g fs)) own s on k = keeps_from (datum_of e.world f) (λ d. cond (truth d) (carried e g) (branched e fs) on)
-        (λ d. keeps_cond (truth d) (carried e g) (branched e fs) (keeps_carried e g own s.1.0) (keeps_branched e fs own s.1.1) on k)
-
-  -- ---- the whole
-  keeps_read : (p : Plan) (s : Setting) (f : Form) → Sound f → Keeps (read p s known f)
-  keeps_read p s f is on k = keeps_looks known nothing_read (read_slots f) (λ r. carried (held p s known r) f on)
-      (λ r. keeps_carried (held p s known r) f refl is on k)
-
-  keeps_timed : (p : Plan) (s : Setting) (f : Form) → Sound f → Keeps (timed p s known f)
-  keeps_timed p s f is on k = (
-    tt,
-    λ h. keeps_moment h _ (λ n. from_ok (rewritten (now_rule n) f) _
-        (λ g same. keeps_read p s g (sound_then n f g is same) on k)),
-  )
-
-  keeps_at_moment : (p : Plan) (s : Setting) (f : Form) → Sound f → Keeps (at_moment p s known f)
-  keeps_at_moment p s f is on k = keeps_cond (has_now f) (timed p s known f) (read p s known f) (keeps_timed p s f is) (keeps_read p s f is) on k
+    pub keeps_branched : (e : Held) (fs : Forms) → AreBelow fs → Keeps (branched e fs)
+    keeps_branched e no_forms s on k = tt
+    keeps_branched e (form f no_forms) s on k = keeps_below e f s.0 on k
+    keeps_branched e (form f (form g fs)) s on k = keeps_from (datum_of e.world f) (λ d. cond (truth d) (carried e g) (branched e fs) on)
+        (λ d. keeps_cond (truth d) (carried e g) (branched e fs) (keeps_below e g s.1.0) (keeps_branched e fs s.1.1) on k)
 
   leak_by : (b : Bool) (f : Form) (on : Form → Request) → (b ≡ false → Always (on f)) → Always (cond b (refuse undetermined) (give f) on)
   leak_by true f on k = tt
   leak_by false f on k = k refl
-
-  keeps_resolving : (p : Plan) (s : Setting) → is_asked p.term ≡ true → plan_fault p.term ≡ None → Keeps (resolving p s known)
-  keeps_resolving p s asked none on k = from_ok (resolved known p.db p.term) _
-      (λ f same. leak_by (leaks false f) f _ (λ free. keeps_at_moment p s f (resolved_sound known p.db p.term f asked none same free) on k))
 
   -- ---- what a plan asks after its answers so far
   abbrev is_move : Next → Bool
@@ -403,10 +377,60 @@ module _ (known : Named) (P : ℕ → FeedSpec → Type 0)
   asks_followed s (asks x on) [] q a h = subst Follows (ap move_in h) a.0
   asks_followed s (asks x on) (y ∷ hs) q a h = asks_followed s (on y) hs q (a.1 y) h
 
-  pub always_asked : (p : Plan) (s : Setting) (hs : List Heard) (n : ℕ) (order : Order) (spec : FeedSpec) → is_asked p.term ≡ true → plan_fault p.term ≡ None
-      → plan_next p s (names known ∷ hs) ≡ moves (run n order) → order.cmd ≡ cmds.Subscribe spec → P n spec
-  always_asked p s hs n order spec asked none h is =
-      subst (IsFollowed n) is (asks_followed s (resolving p s known ends) hs (run n order) (keeps_resolving p s asked none ends (λ o. tt)) h)
+  -- What holds of every opening of CHANGES with planned arguments, where these names are known, holds of every feed that a plan asks for.
+  module _ (known : Named)
+      (all : (e : Held) (fs : Forms) (ms : NamedForms) (x : Feeding) → e.names ≡ known → are_planned fs ≡ true → feeding e fs ms ≡ Ok x → AllByRecursion (λ o. P o.slot o.spec) x.openings) where
+    keeps_changes : (e : Held) (fs : Forms) (ms : NamedForms) → e.names ≡ known → are_planned fs ≡ true → Keeps (changes e fs ms)
+    keeps_changes e fs ms own planned on k = from_ok (feeding e fs ms) _
+        (λ f same. keeps_cond e.setting.noreply (give unsent) (cond (has_room e.setting) (opens e f) (refuse too_many_cursors)) (λ q j. j unsent)
+        (keeps_cond (has_room e.setting) (opens e f) (refuse too_many_cursors) (keeps_opens e f (all e fs ms f own planned same)) (λ q j. tt)) on
+        k)
+
+    keeps_root : (e : Held) (t : Task) (o : Op) (fs : Forms) (ms : NamedForms) → e.names ≡ known → SoundBy t true fs (AreBelow fs)
+        → Keeps (by_task e t o fs ms (branched e fs))
+    keeps_root e task.Value o fs ms own s on k = keeps_shown e (operation o fs ms) on k
+    keeps_root e task.Branch o fs ms own s on k = keeps_cond (any_command fs) (branched e fs) (shown e (operation o fs ms)) (keeps_branched e fs s)
+        (keeps_shown e (operation o fs ms)) on k
+    keeps_root e task.ForEach o fs ms own s on k = keeps_for_each e fs on k
+    keeps_root e task.Write o fs ms own s on k = keeps_wrote e (operation o fs ms) on k
+    keeps_root e task.Catalogue o fs ms own s on k = keeps_catalogue e o fs ms on k
+    keeps_root e task.Index o fs ms own s on k = keeps_table e o fs ms on k
+    keeps_root e task.Sync o fs ms own s on k = keeps_table e o fs ms on k
+    keeps_root e task.Feed o fs ms own s on k = keeps_changes e fs ms own s on k
+
+    keeps_carried : (e : Held) (f : Form) → e.names ≡ known → Sound f → Keeps (carried e f)
+    keeps_carried e (literal d) own s on k = keeps_shown e (literal d) on k
+    keeps_carried e (several fs) own s on k = keeps_shown e (several fs) on k
+    keeps_carried e (keyed ms) own s on k = keeps_shown e (keyed ms) on k
+    keeps_carried e (variable n) own s on k = keeps_shown e (variable n) on k
+    keeps_carried e implicit own s on k = keeps_shown e implicit on k
+    keeps_carried e (function ids f) own s on k = keeps_shown e (function ids f) on k
+    keeps_carried e (slot n) own s on k = keeps_shown e (slot n) on k
+    keeps_carried e (operation o fs ms) own s on k = keeps_root e (task_of o) o fs ms own s on k
+
+    -- ---- the whole
+    keeps_read : (p : Plan) (s : Setting) (f : Form) → Sound f → Keeps (read p s known f)
+    keeps_read p s f is on k = keeps_looks known nothing_read (read_slots f) (λ r. carried (held p s known r) f on)
+        (λ r. keeps_carried (held p s known r) f refl is on k)
+
+    keeps_timed : (p : Plan) (s : Setting) (f : Form) → Sound f → Keeps (timed p s known f)
+    keeps_timed p s f is on k = (
+      tt,
+      λ h. keeps_moment h _ (λ n. from_ok (rewritten (now_rule n) f) _
+          (λ g same. keeps_read p s g (sound_then n true f g is same) on k)),
+    )
+
+    keeps_at_moment : (p : Plan) (s : Setting) (f : Form) → Sound f → Keeps (at_moment p s known f)
+    keeps_at_moment p s f is on k = keeps_cond (has_now f) (timed p s known f) (read p s known f) (keeps_timed p s f is) (keeps_read p s f is) on k
+
+    keeps_resolving : (p : Plan) (s : Setting) → is_asked p.term ≡ true → plan_fault p.term ≡ None → Keeps (resolving p s known)
+    keeps_resolving p s asked none on k = from_ok (resolved known p.db p.term) _
+        (λ f same. leak_by (leaks false f) f _ (λ free. keeps_at_moment p s f (resolved_sound known p.db p.term f asked none same free) on k))
+
+    pub always_asked : (p : Plan) (s : Setting) (hs : List Heard) (n : ℕ) (order : Order) (spec : FeedSpec) → is_asked p.term ≡ true → plan_fault p.term ≡ None
+        → plan_next p s (names known ∷ hs) ≡ moves (run n order) → order.cmd ≡ cmds.Subscribe spec → P n spec
+    always_asked p s hs n order spec asked none h is =
+        subst (IsFollowed n) is (asks_followed s (resolving p s known ends) hs (run n order) (keeps_resolving p s asked none ends (λ o. tt)) h)
 
 -- before it heard the names, or where it heard what is none, a plan asks no slot
 abbrev asks_slot : Next → Bool
@@ -418,7 +442,7 @@ no_slot q n order none h = true≢false (sym (ap asks_slot h) ∙ none)
 
 pub asked_feeds_are_read : AskedFeedsAreRead
 asked_feeds_are_read p s (names ns ∷ hs) n order spec asked none h is =
-    always_asked ns (λ n spec. IsRead spec) (λ e fs ms x own planned opens. feeds_are_read e fs ms x planned opens) p s hs n order spec asked none h is
+    always_asked (λ n spec. IsRead spec) ns (λ e fs ms x own planned opens. feeds_are_read e fs ms x planned opens) p s hs n order spec asked none h is
 asked_feeds_are_read p s [] n order spec asked none h is = absurd (no_slot (plan_next p s []) n order refl h)
 asked_feeds_are_read p s (told m ∷ hs) n order spec asked none h is = absurd (no_slot (plan_next p s (told m ∷ hs)) n order refl h)
 asked_feeds_are_read p s (looked at ∷ hs) n order spec asked none h is = absurd (no_slot (plan_next p s (looked at ∷ hs)) n order refl h)

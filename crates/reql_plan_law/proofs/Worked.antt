@@ -18,7 +18,7 @@ commands = (refl, refl, refl, refl, refl, refl, refl, refl, refl, refl, refl, re
 
 pub feeds : Feeds
 unfolding op_rule
-feeds = (refl, refl, refl, refl, refl, refl, refl, refl, refl, refl, refl, refl, refl, refl, refl, refl, refl, refl, refl, refl, refl, refl, refl)
+feeds = (refl, refl, refl, refl, refl, refl, refl, refl, refl, refl, refl, refl, refl, refl, refl, refl, refl, refl, refl, refl, refl, refl, refl, refl, refl, refl, refl, refl, refl)
 
 pub planned : Planned
 planned = (refl, refl, refl, refl, refl, refl, refl, refl)

@@ -15,4 +15,5 @@ pub mod Minds
 pub mod Follows
 pub mod Opens
 pub mod Theirs
+pub mod Asked
 pub mod Settling

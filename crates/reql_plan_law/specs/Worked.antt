@@ -31,9 +31,10 @@ use Rattle.reql_table_machine.specs.declared.command.Said.TheVariants as said
 use Rattle.reql_law.specs.declared.reply.Saved.TheVariants as saved
 use Rattle.reql_plan_law.specs.declared.parts.Plan.{Plan}
 use Rattle.reql_plan_law.specs.declared.parts.Setting.{Setting}
+use Rattle.reql_plan_law.specs.Asked.{feeds_asked}
 use Rattle.reql_plan_law.specs.Course.{plan_next}
 use Rattle.reql_plan_law.specs.Follows.{is_planned}
-use Rattle.reql_plan_law.specs.Move.{look_names, tell, look, run, change_names, roll, Replied, Heard, names, told, looked, ran, changed, rolled, fault, memory, unsent, atom, sequence, feed, stop}
+use Rattle.reql_plan_law.specs.Move.{Ask, look_names, tell, look, run, change_names, roll, Replied, Heard, names, told, looked, ran, changed, rolled, fault, memory, unsent, atom, sequence, feed, stop}
 use Rattle.reql_plan_law.specs.Opens.{is_asked, carried_as}
 use Rattle.reql_plan_law.specs.Request.{Next, answered, moves}
 use Rattle.reql_plan_law.specs.Summed.{nothing_done, summary_shown}
@@ -332,6 +333,19 @@ low_keys = low docs
 abbrev no_value : Form
 no_value = call op.Desc (literal (boolean true) ∷ [])
 
+-- all that a request has asked its slots for to open feeds
+abbrev asks : ℕ → List Point → Cmd → Ask
+asks k ps c = run k (record { points = ps; cmd = c })
+
+abbrev asked : Form → List Heard → List Ask
+asked f hs = feeds_asked (plan f) (setting false) (names ns ∷ hs)
+
+abbrev docs_feed : Ask
+docs_feed = asks 0 [] (follows "id" (slot 0) None kinds.Range)
+
+abbrev birds_feed : Ask
+birds_feed = asks 1 [] (follows "name" (slot 1) None kinds.Range)
+
 abbrev pub Feeds : Type 0
 Feeds =
     (goes (changes docs []) [] ≡ subscribes (slot 0) kinds.Range)
@@ -361,6 +375,12 @@ Feeds =
     × (goes (changes (first_by "id" (low birds) (num 2)) []) (sees 0 0 [] ∷ []) ≡ fails (query_logic (codes "Misplaced ordering or index.")))
     × (goes (changes (with op.Between (docs ∷ num 1 ∷ num 2 ∷ []) closed) []) [] ≡ subscribes (with op.Between (slot 0 ∷ num 1 ∷ num 2 ∷ []) closed) kinds.Range)
     × (goes (changes (with op.Between (docs ∷ num 1 ∷ num 2 ∷ []) ((codes "right_bound", name "n") ∷ [])) []) [] ≡ fails (query_logic (codes "Bad value for optional argument `right_bound`.")))
+    × (asked (changes united []) [] ≡ docs_feed ∷ [])
+    × (asked (changes united []) (opened 1 [] ∷ []) ≡ docs_feed ∷ birds_feed ∷ [])
+    × (asked (changes united []) (opened 1 [] ∷ opened 1 [] ∷ []) ≡ docs_feed ∷ birds_feed ∷ [])
+    × (asked (changes united []) (says (said.FeedsFull 4) ∷ []) ≡ docs_feed ∷ [])
+    × (asked (changes (first_ones (num 2)) []) (sees 0 0 [] ∷ opened 1 [] ∷ []) ≡ asks 0 (at 0 0 0 ∷ []) (follows "id" (first_of (slot 0) (num 2)) (Some (codes "n")) (kinds.Limit 2)) ∷ [])
+    × (asked united (sees 0 0 [] ∷ sees 1 1 (row 1 ∷ []) ∷ []) ≡ [])
 
 -- ---- what planning leaves, and what it never does: a table that was not looked up, a variable or a table from outside, a count or an option
 -- that an operator doesn't take
