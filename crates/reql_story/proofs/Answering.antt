@@ -312,7 +312,7 @@ module _ (t : ℕ) where
     continue_feed_good b u None c e r = tell_good b u _ 0 _ r refl
     continue_feed_good b u (Some f) c e r = either (Good 0 (w b + q u)) (has_token u b.waiting) _ _
         (λ _. tell_good b u _ 0 _ r refl)
-        (λ n. let s = same_token f.token u (found_token 0 0 u b.feeds f e) in
+        (λ n. let s = same_token f.token u (found_token 0 0 false u b.feeds f e) in
         continue_left_good b f f.left 0 (w b + q u) (omega (arith, s, may_wait u b c (ap (λ z. is_some z) e) n r)) (omega (arith, s)))
 
     continue_good : (b : Books) (u : ℕ) (o : Option Cursor) → cursor_of u b.cursors ≡ o → w b + 0 ≤ room b → Good 0 (w b + q u) (continue_on k b u o)
@@ -358,7 +358,7 @@ module _ (t : ℕ) where
     -- ---- a visit
     visit_feed_good : (b : Books) (u : ℕ) (v : ℕ) (o : Option Open) → feed_of u b.feeds ≡ o → q u + (w b + v) ≤ room b → Good v (w b + q u) (visit_feed k b u o)
     visit_feed_good b u v None e h = let n = no_feed u b (ap (λ z. is_some z) e) in record { fits = omega (arith, h); task = tt; load = omega (arith, h, n) }
-    visit_feed_good b u v (Some f) e h = let s = same_token f.token u (found_token 0 0 u b.feeds f e) in continue_left_good b f f.left v (w b + q u) (omega (arith, s, h)) (omega (arith, s))
+    visit_feed_good b u v (Some f) e h = let s = same_token f.token u (found_token 0 0 false u b.feeds f e) in continue_left_good b f f.left v (w b + q u) (omega (arith, s, h)) (omega (arith, s))
 
     -- ---- a Take
     waits_good : (b : Books) (u : ℕ) (v owed : ℕ) → q u + (w b + v) ≤ room b → w b + q u ≡ owed → Good {PL = PL} v owed (done (waits u b))
@@ -387,7 +387,7 @@ module _ (t : ℕ) where
     ran_good b (Planning u plan noreply count found arms) slot order reply saved v r f x = record { fits = r; task = f; load = refl }
     ran_good b (Visiting u [] points) slot order reply saved v r f x = absurd x
     ran_good b (Visiting u (arm ∷ arms) points) slot order reply saved v r f x =
-        let s = same_token x.0.token u (found_token 0 0 u b.feeds x.0 x.1) in
+        let s = same_token x.0.token u (found_token 0 0 false u b.feeds x.0 x.1) in
         subst (λ o. Good v (w b + q u) (took k b u arm arms points reply o)) (sym x.1) (took_said_good b x.0 arm arms _ reply.said v (w b + q u) (omega (arith, s, f)) (omega (arith, s)))
     ran_good b (Telling u a kept lose after) slot order reply saved v r f x = absurd x
     ran_good b (Closing u [] firm a) slot order reply saved v r f x = absurd x

@@ -1,4 +1,4 @@
--- One arm of one feed in what a session keeps.
+-- One arm of one feed in what a session keeps; its changes alone, or with what is told of skipped ones.
 use Rattle.std.proofs.Common.{◌≡◌, ◌⊎◌, inl, inr, ℕ, Bool, true, false, true≢false, cond, not, ◌&&◌, ◌||◌, List, [], ◌∷◌, ◌++◌, map, filter, take, drop, Option, Some, None, refl, sym, ap, subst, ◌∙◌, append_assoc}
 use Rattle.std.specs.List.{AllByRecursion}
 use Rattle.std.specs.Prelude.{nat_eq}
@@ -11,7 +11,7 @@ use Rattle.reql_datum.specs.Plain.{Plain}
 use Rattle.reql_story.specs.Requests.{Arm, Sort, Opening, State, Skip, Change, Shown}
 use Rattle.reql_story.specs.Books.{Open, feed_of}
 use Rattle.reql_story.specs.Minding.{has_arm, IsAside}
-use Rattle.reql_story.specs.Explained.{if_change, change_of, changes_in}
+use Rattle.reql_story.specs.Explained.{if_told, told_item, told_items}
 
 pub or_false : (x y : Bool) → (x || y) ≡ false → (x ≡ false) × (y ≡ false)
 or_false true y e = absurd (true≢false e)
@@ -56,12 +56,12 @@ module _ (σ φ : ℕ) where
       later true b h = refl
       later false b h = h
 
-module _ (σ φ : ℕ) where
+module _ (σ φ : ℕ) (skips : Bool) where
   abbrev pub of : List Shown → List (ℕ × Plain)
-  of xs = changes_in σ φ xs
+  of xs = told_items σ φ skips xs
 
   pub of_append : (xs ys : List Shown) → of (xs ++ ys) ≡ of xs ++ of ys
-  of_append xs ys = flat_map-append (change_of σ φ) xs ys
+  of_append xs ys = flat_map-append (told_item σ φ skips) xs ys
 
   pub of_cut : (n : ℕ) (xs : List Shown) → of (take n xs) ++ of (drop n xs) ≡ of xs
   of_cut n xs = sym (of_append (take n xs) (drop n xs)) ∙ ap of (take-append-drop n xs)
@@ -70,11 +70,11 @@ module _ (σ φ : ℕ) where
   of_aside [] a = refl
   of_aside (x ∷ xs) a = (λ i. aside x.sort (cond (nat_eq x.arm.slot σ && nat_eq x.arm.feed φ) ((x.stamp, x.item) ∷ []) []) a.0 i ++ of_aside xs a.1 i)
     where
-      aside : (s : Sort) (l : List (ℕ × Plain)) → IsAside s → if_change s l ≡ []
+      aside : (s : Sort) (l : List (ℕ × Plain)) → IsAside s → if_told skips s l ≡ []
       aside Change l h = absurd h
       aside Opening l h = refl
       aside State l h = refl
-      aside Skip l h = refl
+      aside Skip l h = absurd h
 
   -- a feed of which nothing is left, and that has other arms
   pub record IsClean (f : Open) : Type 0 where

@@ -14,15 +14,15 @@ use Rattle.reql_story.specs.Books.{Cursor, Open, Books, has_token, without, curs
 use Rattle.reql_story.specs.Tasks.{Talk, Firm, Stops, Drops, Settled, Task, Planning, Visiting, Telling, Closing, Next, done, at, only_tell, may_tell, close, internal_for, wanted, denied, arms_denied, told, stop_feed, stop, cut, tell, tell_now, comes_to, continue_left, continue_feed, continue_on, visit_feed, visit, refuse, begin, takes_up, is_long, cut_to, fitted, settle}
 use Rattle.reql_story.specs.Bodies.{body, in_use, at_wait}
 use Rattle.reql_story.specs.Minding.{IsAside, PlansMind}
-use Rattle.reql_story.specs.Explained.{sent_in}
+use Rattle.reql_story.specs.Explained.{told_in}
 use Rattle.reql_story.proofs.Shelves.{has_filter, or_false, which, has, of, of_cut, of_aside, IsClean, Cleans, Others, LiveIn, Fine, found_token, which_feed, clean_closed, fine_closed, closes_it, clean_left, live_apart, live_left, fine_more, live_new}
 
-module _ {PL : Type 0} (k : Talk PL) (on : PL → Bool → ℕ → List Found → List Arm → Type 0) (σ φ : ℕ) (c : Bool) where
+module _ {PL : Type 0} (k : Talk PL) (on : PL → Bool → ℕ → List Found → List Arm → Type 0) (σ φ : ℕ) (skips c : Bool) where
   abbrev pub F : Books → List (ℕ × Plain) → Type 0
-  F b p = Fine σ φ c b.feeds p
+  F b p = Fine σ φ skips c b.feeds p
 
   abbrev pub Clean : Books → Type 0
-  Clean b = Cleans σ φ b.feeds
+  Clean b = Cleans σ φ skips b.feeds
 
   abbrev pub Lost : Books → ℕ → Option (List Arm) → List (ℕ × Plain) → Type 0
   Lost b token None p = F b p
@@ -34,19 +34,19 @@ module _ {PL : Type 0} (k : Talk PL) (on : PL → Bool → ℕ → List Found �
 
   abbrev pub NoSent : Option Answer → Type 0
   NoSent None = Unit {0}
-  NoSent (Some a) = sent_in σ φ a ≡ []
+  NoSent (Some a) = told_in σ φ skips a ≡ []
 
   pub record OkTelling (b : Books) (token : ℕ) (a : Answer) (kept : Books) (lose after : Option (List Arm)) (p : List (ℕ × Plain)) : Type 0 where
     pub rest : List (ℕ × Plain)
-    pub said : p ≡ sent_in σ φ a ++ rest
+    pub said : p ≡ told_in σ φ skips a ++ rest
     pub next : F kept rest
     pub lost : Lost b token lose p
     pub then_so : Then kept token after
 
   -- of each task: these changes of the arm were given and not yet sent
   abbrev pub OkTask : Books → Task PL → List (ℕ × Plain) → Type 0
-  OkTask b (Planning token plan noreply count found arms) p = on plan noreply count found arms × Others σ φ token b.feeds × (((has σ φ arms ≡ false) × F b p) ⊎ ((c ≡ true) × Clean b × (p ≡ [])))
-  OkTask b (Visiting token arms points) p = (Clean b × (has σ φ arms ≡ false)) ⊎ ((c ≡ true) × (l : LiveIn σ φ b.feeds p) × (((nat_eq l.feed.token token ≡ true) × (p ≡ [])) ⊎ ((nat_eq l.feed.token token ≡ false) × (has σ φ arms ≡ false))))
+  OkTask b (Planning token plan noreply count found arms) p = on plan noreply count found arms × Others σ φ skips token b.feeds × (((has σ φ arms ≡ false) × F b p) ⊎ ((c ≡ true) × Clean b × (p ≡ [])))
+  OkTask b (Visiting token arms points) p = (Clean b × (has σ φ arms ≡ false)) ⊎ ((c ≡ true) × (l : LiveIn σ φ skips b.feeds p) × (((nat_eq l.feed.token token ≡ true) × (p ≡ [])) ⊎ ((nat_eq l.feed.token token ≡ false) × (has σ φ arms ≡ false))))
   OkTask b (Telling token a kept lose after) p = OkTelling b token a kept lose after p
   OkTask b (Closing token arms firm a) p = F b p × (has σ φ arms ≡ true → Clean (closed token b)) × NoSent a
 
@@ -60,7 +60,7 @@ module _ {PL : Type 0} (k : Talk PL) (on : PL → Bool → ℕ → List Found �
   pub no_arm : {A : Type 0} → false ≡ true → A
   no_arm e = absurd (true≢false (sym e))
 
-  pub ok_only : (b : Books) (token : ℕ) (a : Answer) (p : List (ℕ × Plain)) → F b p → sent_in σ φ a ≡ [] → OkNext (only_tell b token a) p
+  pub ok_only : (b : Books) (token : ℕ) (a : Answer) (p : List (ℕ × Plain)) → F b p → told_in σ φ skips a ≡ [] → OkNext (only_tell b token a) p
   ok_only b token a p f n = record { rest = p; said = ap (λ z. z ++ p) (sym n); next = f; lost = f; then_so = tt }
 
   ok_may : (b : Books) (token : ℕ) (a : Option Answer) (p : List (ℕ × Plain)) → F b p → NoSent a → OkNext (may_tell b token a) p
@@ -79,7 +79,7 @@ module _ {PL : Type 0} (k : Talk PL) (on : PL → Bool → ℕ → List Found �
   planning_fine b token plan noreply count found arms p o = elim o.2 [ inl h ↦ h.1 | inr h ↦ inl h.1 ]
 
   planning_closes : (b : Books) (token : ℕ) (plan : PL) (noreply : Bool) (count : ℕ) (found : List Found) (arms : List Arm) (p : List (ℕ × Plain)) → OkTask b (Planning token plan noreply count found arms) p → has σ φ arms ≡ true → Clean (closed token b)
-  planning_closes b token plan noreply count found arms p o t = elim o.2 [ inl h ↦ absurd (true≢false (sym t ∙ h.0)) | inr h ↦ clean_closed σ φ token b.feeds h.1 ]
+  planning_closes b token plan noreply count found arms p o t = elim o.2 [ inl h ↦ absurd (true≢false (sym t ∙ h.0)) | inr h ↦ clean_closed σ φ skips token b.feeds h.1 ]
 
   pub visiting_fine : (b : Books) (token : ℕ) (arms : List Arm) (points : List Point) (p : List (ℕ × Plain)) → OkTask b (Visiting token arms points) p → F b p
   visiting_fine b token arms points p (inl h) = inl h.0
@@ -91,7 +91,7 @@ module _ {PL : Type 0} (k : Talk PL) (on : PL → Bool → ℕ → List Found �
       (split noreply (λ x. NoSent (cond x None (Some Internal))) (λ _. tt) (λ _. refl))
   ok_wanted b (Visiting token arms points) p o = ok_only b token Internal p (visiting_fine b token arms points p o) refl
   ok_wanted b (Telling token a kept None after) p o = ok_only b token Internal p o.lost refl
-  ok_wanted b (Telling token a kept (Some arms) after) p o = ok_close (closed token b) token arms Settled (Some Internal) p o.lost.0 (λ t. clean_closed σ φ token (closed token b).feeds (o.lost.1 t)) refl
+  ok_wanted b (Telling token a kept (Some arms) after) p o = ok_close (closed token b) token arms Settled (Some Internal) p o.lost.0 (λ t. clean_closed σ φ skips token (closed token b).feeds (o.lost.1 t)) refl
   ok_wanted b (Closing token arms Settled a) p o = ok_close b token arms Settled (internal_for a) p o.0 o.1 (no_internal a)
   ok_wanted b (Closing token arms Stops a) p o = ok_only b token Internal p o.0 refl
   ok_wanted b (Closing token arms Drops a) p o = ok_only b token Internal p o.0 refl
@@ -101,8 +101,8 @@ module _ {PL : Type 0} (k : Talk PL) (on : PL → Bool → ℕ → List Found �
   later_arm false y h = h
 
   pub closing_on : (b : Books) (token : ℕ) (arm : Arm) (arms : List Arm) (firm : Firm) (a : Option Answer) (p : List (ℕ × Plain)) → OkTask b (Closing token (arm ∷ arms) firm a) p → OkNext (close (closed token b) token arms Settled a) p
-  closing_on b token arm arms firm a p o = ok_close (closed token b) token arms Settled a p (fine_closed σ φ c token b.feeds p o.0)
-      (λ t. clean_closed σ φ token (closed token b).feeds (o.1 (later_arm (nat_eq arm.slot σ && nat_eq arm.feed φ) (has σ φ arms) t))) o.2
+  closing_on b token arm arms firm a p o = ok_close (closed token b) token arms Settled a p (fine_closed σ φ skips c token b.feeds p o.0)
+      (λ t. clean_closed σ φ skips token (closed token b).feeds (o.1 (later_arm (nat_eq arm.slot σ && nat_eq arm.feed φ) (has σ φ arms) t))) o.2
 
   fewer_arms : (slot : ℕ) (cmd : Cmd) (arms : List Arm) → has σ φ (arms_denied slot cmd arms) ≡ true → has σ φ arms ≡ true
   fewer_arms slot (cmds.Unsubscribe feed) arms h = has_filter σ φ (λ a. not (nat_eq a.slot slot) || not (nat_eq a.feed feed)) arms h
@@ -134,21 +134,21 @@ module _ {PL : Type 0} (k : Talk PL) (on : PL → Bool → ℕ → List Found �
   pub ok_tell : (b : Books) (token : ℕ) (a : Answer) (kept : Books) (arms : List Arm) (lose : Option (List Arm)) (p : List (ℕ × Plain)) → F (closed token b) p → (has σ φ arms ≡ true → Clean (closed token b)) →
       OkTelling b token a kept lose None p → OkNext (tell k b token a kept arms lose) p
   ok_tell b token a kept arms lose p f h o = split (nat_lt k.limits.answer (length (body a))) (λ x. OkNext (cond x (cut k b token a arms) (at b (Telling token a kept lose None))) p)
-      (λ _. ok_close (closed token b) token arms Settled (Some (cut_to k a)) p f (λ t. clean_closed σ φ token (closed token b).feeds (h t)) refl) (λ _. o)
+      (λ _. ok_close (closed token b) token arms Settled (Some (cut_to k a)) p f (λ t. clean_closed σ φ skips token (closed token b).feeds (h t)) refl) (λ _. o)
 
   -- an answer that is cut to fit has no more changes
-  pub no_more_sent : (a : Answer) → sent_in σ φ a ≡ [] → sent_in σ φ (fitted k a) ≡ []
-  no_more_sent a n = split (is_long k a) (λ x. sent_in σ φ (cond x (cut_to k a) a) ≡ []) (λ _. refl) (λ _. n)
+  pub no_more_sent : (a : Answer) → told_in σ φ skips a ≡ [] → told_in σ φ skips (fitted k a) ≡ []
+  no_more_sent a n = split (is_long k a) (λ x. told_in σ φ skips (cond x (cut_to k a) a) ≡ []) (λ _. refl) (λ _. n)
 
-  pub ok_settle : (b : Books) (token : ℕ) (arms : List Arm) (a : Answer) (p : List (ℕ × Plain)) → F b p → (has σ φ arms ≡ true → Clean (closed token b)) → sent_in σ φ a ≡ [] → OkNext (settle k b token arms a) p
+  pub ok_settle : (b : Books) (token : ℕ) (arms : List Arm) (a : Answer) (p : List (ℕ × Plain)) → F b p → (has σ φ arms ≡ true → Clean (closed token b)) → told_in σ φ skips a ≡ [] → OkNext (settle k b token arms a) p
   ok_settle b token arms a p f h n = ok_close b token arms Settled (Some (fitted k a)) p f h (no_more_sent a n)
 
-  pub ok_now : (b : Books) (token : ℕ) (a : Answer) (p : List (ℕ × Plain)) → F b p → sent_in σ φ a ≡ [] → OkNext (tell_now k b token a) p
+  pub ok_now : (b : Books) (token : ℕ) (a : Answer) (p : List (ℕ × Plain)) → F b p → told_in σ φ skips a ≡ [] → OkNext (tell_now k b token a) p
   ok_now b token a p f n = ok_only b token (fitted k a) p f (no_more_sent a n)
 
   -- an answer with no changes of the arm, after which the feeds are as good
-  pub ok_other : (b : Books) (token : ℕ) (a : Answer) (kept : Books) (p : List (ℕ × Plain)) → F b p → F kept p → sent_in σ φ a ≡ [] → OkNext (tell k b token a kept [] None) p
-  ok_other b token a kept p f g n = ok_tell b token a kept [] None p (fine_closed σ φ c token b.feeds p f) no_arm (record { rest = p; said = ap (λ z. z ++ p) (sym n); next = g; lost = f; then_so = tt })
+  pub ok_other : (b : Books) (token : ℕ) (a : Answer) (kept : Books) (p : List (ℕ × Plain)) → F b p → F kept p → told_in σ φ skips a ≡ [] → OkNext (tell k b token a kept [] None) p
+  ok_other b token a kept p f g n = ok_tell b token a kept [] None p (fine_closed σ φ skips c token b.feeds p f) no_arm (record { rest = p; said = ap (λ z. z ++ p) (sym n); next = g; lost = f; then_so = tt })
 
   pub nils : {A : Type 0} (u v : List A) → u ++ v ≡ [] → (u ≡ []) × (v ≡ [])
   nils [] v h = (refl, h)
@@ -156,13 +156,13 @@ module _ {PL : Type 0} (k : Talk PL) (on : PL → Bool → ℕ → List Found �
 
   -- a feed goes on: with its items left, or by a visit
   pub ok_left : (b : Books) (f : Open) (left : List Shown) (p : List (ℕ × Plain)) → feed_of f.token b.feeds ≡ Some f → f.left ≡ left → F b p → OkNext (continue_left k b f left) p
-  ok_left b f [] p e n fine = elim (which_feed σ φ c f.token b.feeds p f e fine) [
+  ok_left b f [] p e n fine = elim (which_feed σ φ skips c f.token b.feeds p f e fine) [
     | inl h ↦ inl (h.0, h.1.arms)
     | inr h ↦ inr (
       h.0,
       h.1,
       elim h.2 [
-        | inl same ↦ inl (ap (λ (z : Open). nat_eq z.token f.token) same ∙ eq-eqb f.token f.token refl, h.1.left ∙ ap (λ (z : Open). of σ φ z.left) same ∙ ap (of σ φ) n)
+        | inl same ↦ inl (ap (λ (z : Open). nat_eq z.token f.token) same ∙ eq-eqb f.token f.token refl, h.1.left ∙ ap (λ (z : Open). of σ φ skips z.left) same ∙ ap (of σ φ skips) n)
         | inr other ↦ inr (other.1, other.0.arms)
       ],
     )
@@ -170,28 +170,28 @@ module _ {PL : Type 0} (k : Talk PL) (on : PL → Bool → ℕ → List Found �
   ok_left b f (x ∷ xs) p e n fine =
       let front : List Shown = take f.batch (x ∷ xs) in
       let back : List Shown = drop f.batch (x ∷ xs) in
-      let none : IsClean σ φ f → (of σ φ front ≡ []) × (of σ φ back ≡ []) = λ cl. nils (of σ φ front) (of σ φ back) (of_cut σ φ f.batch (x ∷ xs) ∙ ap (of σ φ) (sym n) ∙ cl.left) in
-      ok_tell b f.token (Batch f.notes front None) (with_left f.token back b) f.arms None p (fine_closed σ φ c f.token b.feeds p fine) (λ t. closes_it σ φ c f.token b.feeds p f e t fine)
-      (elim (which_feed σ φ c f.token b.feeds p f e fine) [
+      let none : IsClean σ φ skips f → (of σ φ skips front ≡ []) × (of σ φ skips back ≡ []) = λ cl. nils (of σ φ skips front) (of σ φ skips back) (of_cut σ φ skips f.batch (x ∷ xs) ∙ ap (of σ φ skips) (sym n) ∙ cl.left) in
+      ok_tell b f.token (Batch f.notes front None) (with_left f.token back b) f.arms None p (fine_closed σ φ skips c f.token b.feeds p fine) (λ t. closes_it σ φ skips c f.token b.feeds p f e t fine)
+      (elim (which_feed σ φ skips c f.token b.feeds p f e fine) [
         | inl h ↦ record {
           rest = p;
           said = ap (λ z. z ++ p) (sym (none h.1).0);
-          next = inl (clean_left σ φ f.token back b.feeds (none h.1).1 h.0);
+          next = inl (clean_left σ φ skips f.token back b.feeds (none h.1).1 h.0);
           lost = fine;
           then_so = tt;
         }
         | inr h ↦ elim h.2 [
           | inl same ↦ record {
-            rest = of σ φ back;
-            said = h.1.left ∙ ap (λ (z : Open). of σ φ z.left) same ∙ ap (of σ φ) n ∙ sym (of_cut σ φ f.batch (x ∷ xs));
-            next = inr (h.0, live_left σ φ f.token back b.feeds p (of σ φ back) h.1 (ap (λ (z : Open). nat_eq z.token f.token) same ∙ eq-eqb f.token f.token refl) refl);
+            rest = of σ φ skips back;
+            said = h.1.left ∙ ap (λ (z : Open). of σ φ skips z.left) same ∙ ap (of σ φ skips) n ∙ sym (of_cut σ φ skips f.batch (x ∷ xs));
+            next = inr (h.0, live_left σ φ skips f.token back b.feeds p (of σ φ skips back) h.1 (ap (λ (z : Open). nat_eq z.token f.token) same ∙ eq-eqb f.token f.token refl) refl);
             lost = fine;
             then_so = tt;
           }
           | inr o ↦ record {
             rest = p;
             said = ap (λ z. z ++ p) (sym (none o.0).0);
-            next = inr (h.0, live_apart σ φ f.token back b.feeds p (none o.0).1 h.1 o.1);
+            next = inr (h.0, live_apart σ φ skips f.token back b.feeds p (none o.0).1 h.1 o.1);
             lost = fine;
             then_so = tt;
           }
@@ -200,7 +200,7 @@ module _ {PL : Type 0} (k : Talk PL) (on : PL → Bool → ℕ → List Found �
 
   -- a feed is found by its own token
   pub own_token : (token : ℕ) (b : Books) (f : Open) → feed_of token b.feeds ≡ Some f → feed_of f.token b.feeds ≡ Some f
-  own_token token b f e = ap (λ z. feed_of z b.feeds) (eqb-true f.token token (found_token σ φ token b.feeds f e)) ∙ e
+  own_token token b f e = ap (λ z. feed_of z b.feeds) (eqb-true f.token token (found_token σ φ skips token b.feeds f e)) ∙ e
 
   ok_visit_feed : (b : Books) (token : ℕ) (o : Option Open) (p : List (ℕ × Plain)) → feed_of token b.feeds ≡ o → F b p → OkNext (visit_feed k b token o) p
   ok_visit_feed b token None p e fine = fine
@@ -218,25 +218,25 @@ module _ {PL : Type 0} (k : Talk PL) (on : PL → Bool → ℕ → List Found �
   ok_continue b token None p fine = ok_continue_feed b token (feed_of token b.feeds) p refl fine
   ok_continue b token (Some s) p fine =
       split (nat_le (length s.rest) s.batch) (λ x. OkNext (cond x (tell k b s.token (Last s.rest None) (closed s.token b) [] None) (tell k b s.token (Part (take s.batch s.rest) None) (with_rest s.token (drop s.batch s.rest) b) [] None)) p)
-      (λ _. ok_other b s.token _ _ p fine (fine_closed σ φ c s.token b.feeds p fine) refl) (λ _. ok_other b s.token _ _ p fine fine refl)
+      (λ _. ok_other b s.token _ _ p fine (fine_closed σ φ skips c s.token b.feeds p fine) refl) (λ _. ok_other b s.token _ _ p fine fine refl)
 
   ok_stop_feed : (b : Books) (token : ℕ) (o : Option Open) (p : List (ℕ × Plain)) → feed_of token b.feeds ≡ o → F b p → OkNext (stop_feed b token o) p
   ok_stop_feed b token None p e fine = ok_only b token _ p fine refl
   ok_stop_feed b token (Some f) p e fine =
       split (has_token token b.waiting) (λ x. OkNext (cond x (at b (Telling token (Last [] None) (record b { waiting = without token b.waiting }) None (Some f.arms))) (close b token f.arms Stops (Some (Last [] None)))) p)
-      (λ _. record { rest = p; said = refl; next = fine; lost = fine; then_so = λ t. closes_it σ φ c token b.feeds p f e t fine })
-      (λ _. ok_close b token f.arms Stops (Some (Last [] None)) p fine (λ t. closes_it σ φ c token b.feeds p f e t fine) refl)
+      (λ _. record { rest = p; said = refl; next = fine; lost = fine; then_so = λ t. closes_it σ φ skips c token b.feeds p f e t fine })
+      (λ _. ok_close b token f.arms Stops (Some (Last [] None)) p fine (λ t. closes_it σ φ skips c token b.feeds p f e t fine) refl)
 
   ok_stop : (b : Books) (token : ℕ) (o : Option (Cursor)) (p : List (ℕ × Plain)) → F b p → OkNext (stop b token o) p
   ok_stop b token None p fine = ok_stop_feed b token (feed_of token b.feeds) p refl fine
-  ok_stop b token (Some s) p fine = record { rest = p; said = refl; next = fine_closed σ φ c token b.feeds p fine; lost = fine; then_so = tt }
+  ok_stop b token (Some s) p fine = record { rest = p; said = refl; next = fine_closed σ φ skips c token b.feeds p fine; lost = fine; then_so = tt }
 
-  ok_refuse : (b : Books) (token : ℕ) (noreply : Bool) (a : Answer) (p : List (ℕ × Plain)) → F b p → sent_in σ φ a ≡ [] → OkNext (refuse k b token noreply a) p
+  ok_refuse : (b : Books) (token : ℕ) (noreply : Bool) (a : Answer) (p : List (ℕ × Plain)) → F b p → told_in σ φ skips a ≡ [] → OkNext (refuse k b token noreply a) p
   ok_refuse b token noreply a p fine n = split noreply (λ x. OkNext (cond x (done b) (tell_now k b token a)) p) (λ _. fine) (λ _. ok_now b token a p fine n)
 
-  none_others : (token : ℕ) (fs : List Open) → is_some (feed_of token fs) ≡ false → Others σ φ token fs
+  none_others : (token : ℕ) (fs : List Open) → is_some (feed_of token fs) ≡ false → Others σ φ skips token fs
   none_others token [] e = tt
-  none_others token (f ∷ fs) e = split (nat_eq f.token token) (λ x. nat_eq f.token token ≡ x → is_some (cond x (Some f) (feed_of token fs)) ≡ false → Others σ φ token (f ∷ fs))
+  none_others token (f ∷ fs) e = split (nat_eq f.token token) (λ x. nat_eq f.token token ≡ x → is_some (cond x (Some f) (feed_of token fs)) ≡ false → Others σ φ skips token (f ∷ fs))
       (λ _ t h. absurd (true≢false h)) (λ _ t h. (t, none_others token fs h)) refl e
 
   module _ (well : PlansMind k on) where
@@ -252,23 +252,23 @@ module _ {PL : Type 0} (k : Talk PL) (on : PL → Bool → ℕ → List Found �
         let shuts = planning_closes b token plan noreply count found arms p o in
         split (nat_le (length items) batch) (λ x. OkNext (cond x (settle k b token arms (Last items (Some s))) (tell k b token (Part (take batch items) (Some s)) (with_cursor (record { token = token; rest = drop batch items; batch = batch }) b) arms None)) p)
         (λ _. ok_settle b token arms _ p f shuts refl)
-        (λ _. ok_tell b token _ _ arms None p (fine_closed σ φ c token b.feeds p f) shuts (record { rest = p; said = refl; next = f; lost = f; then_so = tt }))
+        (λ _. ok_tell b token _ _ arms None p (fine_closed σ φ skips c token b.feeds p f) shuts (record { rest = p; said = refl; next = f; lost = f; then_so = tt }))
     ok_comes b token plan noreply count found arms batch p (Feed feed notes items) o e =
         let f = planning_fine b token plan noreply count found arms p o in
         let w = well.ends plan noreply count found arms feed notes items o.0 e in
         let shuts : has σ φ feed ≡ true → Clean (closed token b) = λ t. planning_closes b token plan noreply count found arms p o (w.0 σ φ t) in
         let g : Open = record { token = token; arms = feed; left = drop batch items; batch = batch; notes = notes } in
-        let left : of σ φ (drop batch items) ≡ [] = of_aside σ φ (drop batch items) (all_drop (λ (x : Shown). IsAside x.sort) batch items w.1) in
-        let front : of σ φ (take batch items) ≡ [] = of_aside σ φ (take batch items) (all_take (λ (x : Shown). IsAside x.sort) batch items w.1) in
-        ok_tell b token _ (with_feed g b) feed (Some feed) p (fine_closed σ φ c token b.feeds p f) shuts
+        let left : of σ φ skips (drop batch items) ≡ [] = of_aside σ φ skips (drop batch items) (all_drop (λ (x : Shown). IsAside x.sort) batch items w.1) in
+        let front : of σ φ skips (take batch items) ≡ [] = of_aside σ φ skips (take batch items) (all_take (λ (x : Shown). IsAside x.sort) batch items w.1) in
+        ok_tell b token _ (with_feed g b) feed (Some feed) p (fine_closed σ φ skips c token b.feeds p f) shuts
         (record {
           rest = p;
           said = ap (λ z. z ++ p) (sym front);
-          lost = (fine_closed σ φ c token b.feeds p f, shuts);
+          lost = (fine_closed σ φ skips c token b.feeds p f, shuts);
           then_so = tt;
           next = elim o.2 [
-            | inl h ↦ fine_more σ φ c b.feeds p g o.1 (record { arms = no_more feed arms (w.0 σ φ) h.0; left = left }) h.1
-            | inr h ↦ inr (h.0, subst (λ z. LiveIn σ φ (b.feeds ++ g ∷ []) z) (sym h.2) (live_new σ φ b.feeds g o.1 h.1 left))
+            | inl h ↦ fine_more σ φ skips c b.feeds p g o.1 (record { arms = no_more feed arms (w.0 σ φ) h.0; left = left }) h.1
+            | inr h ↦ inr (h.0, subst (λ z. LiveIn σ φ skips (b.feeds ++ g ∷ []) z) (sym h.2) (live_new σ φ skips b.feeds g o.1 h.1 left))
           ];
         })
       where

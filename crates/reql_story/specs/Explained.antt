@@ -1,5 +1,5 @@
 -- When a hall explains a session, and what its feeds were sent.
-use Rattle.std.specs.Prelude.{◌≡◌, ◌≤◌, ℕ, ℤ, nat_eq, Bool, true, false, ◌&&◌, cond, List, [], ◌∷◌, flat_map, Option}
+use Rattle.std.specs.Prelude.{◌≡◌, ◌≤◌, ℕ, ℤ, nat_eq, Bool, true, false, ◌&&◌, cond, List, [], ◌∷◌, ◌++◌, flat_map, Option}
 use Rattle.std.specs.List.{AllByRecursion}
 use Rattle.reql_datum.specs.Plain.{Plain}
 use Rattle.reql_shared.specs.Acts.{Ran}
@@ -7,11 +7,16 @@ use Rattle.reql_shared.specs.Parts.{IsPart}
 use Rattle.reql_catalog.specs.Machine.{catalogue_machine}
 use Rattle.reql_catalog.specs.declared.catalog.Catalog.{Catalog}
 use Rattle.reql_catalog.specs.declared.command.CatCmd.{CatCmd}
+use Rattle.reql_feed_law.specs.Shown.{skip_item}
 use Rattle.reql_hall.specs.Shares.{Share, Seen, LiesIn}
+use Rattle.reql_table_machine.specs.Fed.{Taking}
+use Rattle.reql_table_machine.specs.declared.command.Said.{Said}
+use Rattle.reql_table_machine.specs.declared.command.Said.TheVariants as said
+use Rattle.reql_write_law.specs.declared.command.Summary.{Summary}
 use Rattle.reql_law.specs.Machine.{State, machine}
 use Rattle.reql_law.specs.declared.command.Order.{Order}
 use Rattle.reql_law.specs.declared.reply.Saved.TheVariants as saved
-use Rattle.reql_story.specs.Requests.{Sort, Change, Shown, Answer, Batch}
+use Rattle.reql_story.specs.Requests.{Sort, Skip, Change, Shown, Answer, Batch}
 use Rattle.reql_story.specs.Tasks.{Talk}
 use Rattle.reql_story.specs.Session.{Event, On, Say, Mach, Leaving, fresh, Run, heard, idles, turns, over, clocked, rolled, acts_on, acts_on_names}
 use Rattle.reql_story.specs.declared.end.End.{End}
@@ -100,3 +105,38 @@ sent_by slot feed e = []
 
 abbrev pub sent_of : ℕ → ℕ → List Event → List (ℕ × Plain)
 sent_of slot feed es = flat_map (sent_by slot feed) es
+
+-- ---- with what it was told of skipped ones, where `skips` is true
+abbrev pub if_told : Bool → Sort → List (ℕ × Plain) → List (ℕ × Plain)
+if_told skips Change l = l
+if_told skips Skip l = cond skips l []
+if_told skips other l = []
+
+abbrev pub told_item : ℕ → ℕ → Bool → Shown → List (ℕ × Plain)
+told_item slot feed skips x = if_told skips x.sort (cond (nat_eq x.arm.slot slot && nat_eq x.arm.feed feed) ((x.stamp, x.item) ∷ []) [])
+
+abbrev pub told_items : ℕ → ℕ → Bool → List Shown → List (ℕ × Plain)
+told_items slot feed skips xs = flat_map (told_item slot feed skips) xs
+
+abbrev pub told_in : ℕ → ℕ → Bool → Answer → List (ℕ × Plain)
+told_in slot feed skips (Batch notes xs s) = told_items slot feed skips xs
+told_in slot feed skips other = []
+
+abbrev pub told_by : ℕ → ℕ → Bool → Event → List (ℕ × Plain)
+told_by slot feed skips (Say token a true) = told_in slot feed skips a
+told_by slot feed skips e = []
+
+abbrev pub all_told : ℕ → ℕ → Bool → List Event → List (ℕ × Plain)
+all_told slot feed skips es = flat_map (told_by slot feed skips) es
+
+-- and what the answers of Takes give: before the items of a batch, where it tells that some were skipped, the item that says how many, with the stamp of
+-- the last of them
+abbrev pub skip_taken : Bool → ℕ → ℕ → List (ℕ × Plain)
+skip_taken skips skipped last = cond skips (cond (nat_eq skipped 0) [] ((last, skip_item skipped) ∷ [])) []
+
+abbrev pub taken_in : Bool → Said Summary Plain → List (ℕ × Plain)
+taken_in skips (said.Batch skipped last items) = skip_taken skips skipped last ++ items
+taken_in skips other = []
+
+abbrev pub all_taken : Bool → List (Taking Summary Plain) → List (ℕ × Plain)
+all_taken skips ts = flat_map (λ (t : Taking Summary Plain). taken_in skips t.said) ts

@@ -1,5 +1,5 @@
 -- The laws of explained sessions.
-use Rattle.std.specs.Prelude.{◌≡◌, ◌≤◌, ◌<◌, ◌+◌, ◌^◌, ◌⊎◌, ℕ, Bool, true, false, length, List, [], ◌∷◌, ◌++◌, take, drop, flat_map, map, Some}
+use Rattle.std.specs.Prelude.{◌≡◌, ◌≤◌, ◌<◌, ◌+◌, ◌-◌, ◌^◌, ◌⊎◌, ℕ, Bool, true, false, length, List, [], ◌∷◌, ◌++◌, take, drop, flat_map, map, Some}
 use Rattle.std.specs.List.{AllByRecursion}
 use Rattle.reql_datum.specs.Plain.{Plain}
 use Rattle.reql_wire.specs.Frames.{Fits, Over, spellings}
@@ -14,10 +14,10 @@ use Rattle.reql_catalog.specs.declared.catalog.Catalog.{Catalog}
 use Rattle.reql_catalog.specs.declared.command.CatCmd.{CatCmd}
 use Rattle.reql_hall.specs.Rooms.{Sitting, Histories, pass, LearnsAll}
 use Rattle.reql_hall.specs.Shares.{Grows, share, seen_by, Serves}
-use Rattle.reql_table_machine.specs.Feeding.{fold, bare}
+use Rattle.reql_table_machine.specs.Feeding.{fold, bare, appended}
 use Rattle.reql_table_machine.specs.Fed.{upto, Whole, takings}
 use Rattle.reql_table_machine.specs.declared.command.Said.TheVariants as said
-use Rattle.reql_law.specs.Laws.{AreGood, docs_at, known_act}
+use Rattle.reql_law.specs.Laws.{AreGood, History, docs_at, changes, known_act, TellSkips, LieInOrder}
 use Rattle.reql_law.specs.Machine.{State, machine}
 use Rattle.reql_law.specs.Replies.{Answered as Told}
 use Rattle.reql_law.specs.Table as tables
@@ -28,7 +28,7 @@ use Rattle.reql_law.specs.declared.command.Order.{Order}
 use Rattle.reql_law.specs.declared.reply.Saved.{Saved}
 use Rattle.reql_story.specs.Tasks.{Talk, close_order}
 use Rattle.reql_story.specs.Session.{Event, Greeted, On, Say, Mach, fresh, Unread, Run, heard, begun, acts_on}
-use Rattle.reql_story.specs.Explained.{DeskShare, DeskSeen, Life, Explained, ExplainedBy, sent_of}
+use Rattle.reql_story.specs.Explained.{DeskShare, DeskSeen, Life, Explained, ExplainedBy, sent_of, all_told, all_taken}
 use Rattle.reql_story.specs.declared.end.End.{End}
 use Rattle.reql_story.specs.declared.end.End.TheVariants as ends
 
@@ -51,6 +51,18 @@ abbrev pub IsClosing : Event → Type 0
 IsClosing (On slot (Ran place order reply) saved) = (feed : ℕ) × (order ≡ close_order feed)
 IsClosing (On slot (Denied place) saved) = Unit {0}
 IsClosing e = ⊥
+
+-- the items that the changes after a stamp append to a feed
+abbrev pub items_after : State → History → Held → ℕ → List (ℕ × Plain)
+items_after start history h stamp = appended (feeding start.most) h (docs_at start history stamp) stamp (drop (stamp - start.table.stamp) (changes start history))
+
+-- What a client was sent of a feed, its changes and what tells that some were skipped, is a front of what the answers of its Takes give, in their order;
+-- and these tell just what the feed's queue skipped of the items that came to it.
+pub record SendsSkips (most slot feed : ℕ) (h : Held) (items : List (ℕ × Plain)) (after : List Event) : Type 0 where
+  pub unsent : List (ℕ × Plain)
+  pub sent : all_told slot feed true after ++ unsent ≡ all_taken true (takings feed (map known_act (acts_on slot after)))
+  pub tells : TellSkips most h items (takings feed (map known_act (acts_on slot after)))
+  pub laid : LieInOrder most h items (takings feed (map known_act (acts_on slot after)))
 
 module _ {PL : Type 0} (k : Talk PL) where
   -- a greeting that was accepted, with what came behind it
@@ -180,3 +192,10 @@ module _ {PL : Type 0} (k : Talk PL) where
       → fold (feeding (share.slots slot).start.most) o.held ((feeding (share.slots slot).start.most).value o.held (docs_at (share.slots slot).start (seen.slots slot) stamp))
       (bare (feeding (share.slots slot).start.most) (upto n (sent_of slot feed after)))
       ≡ (feeding (share.slots slot).start.most).value o.held (docs_at (share.slots slot).start (seen.slots slot) n)
+
+  -- of each feed that a request of an explained session opened: rules out a skip that is sent behind an item which came after it, sent twice, or left out
+  -- where a later item is sent
+  abbrev pub SkipsAreSent : Type 0
+  SkipsAreSent = (seen : DeskSeen) (share : DeskShare) (life : Life) → ((slot : ℕ) → (share.slots slot).start.table.feeds ≡ [])
+      → (slot feed stamp : ℕ) (after : List Event) (o : Opens seen share life slot feed stamp after)
+      → SendsSkips (share.slots slot).start.most slot feed o.held (items_after (share.slots slot).start (seen.slots slot) o.held stamp) after

@@ -8,7 +8,7 @@ use Rattle.reql_law.specs.declared.command.Cmd.{Cmd}
 use Rattle.reql_law.specs.declared.command.Cmd.TheVariants as cmds
 use Rattle.reql_law.specs.declared.command.Order.{Order}
 use Rattle.reql_law.specs.declared.reply.Saved.{Saved}
-use Rattle.reql_story.specs.Requests.{Arm, Sort, Change, Shown, Answered, Unsent, Stream, Feed, RunSlot, Ends, Found, RanSlot}
+use Rattle.reql_story.specs.Requests.{Arm, Sort, Skip, Change, Shown, Answered, Unsent, Stream, Feed, RunSlot, Ends, Found, RanSlot}
 use Rattle.reql_story.specs.Tasks.{Talk, arms_after}
 
 abbrev pub has_arm : ℕ → ℕ → List Arm → Bool
@@ -21,9 +21,10 @@ Minds arms slot (cmds.Take feed max) = ⊥
 Minds arms slot (cmds.Unsubscribe feed) = has_arm slot feed arms ≡ true
 Minds arms slot other = Unit {0}
 
--- an item that is no change
+-- an item that is no change, and tells of no skipped ones
 abbrev pub IsAside : Sort → Type 0
 IsAside Change = ⊥
+IsAside Skip = ⊥
 IsAside other = Unit {0}
 
 -- what was found other than by a command on a slot

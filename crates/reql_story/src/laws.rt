@@ -2,7 +2,7 @@
 ghost use Rattle.reql_hall.specs.Shares.{IsKept};
 ghost use Rattle.reql_story.specs.Answering.{EachIsAnswered};
 ghost use Rattle.reql_story.specs.Explained.{ExplainedBy};
-ghost use Rattle.reql_story.specs.Laws.{InOrder, FramesHandled, WornLate, FirstFailed, ValidCloses, OneMore, Learning, NothingLeft, FeedsHold};
+ghost use Rattle.reql_story.specs.Laws.{InOrder, FramesHandled, WornLate, FirstFailed, ValidCloses, OneMore, Learning, NothingLeft, FeedsHold, SkipsAreSent};
 
 use crate::planning::Planning;
 
@@ -62,4 +62,10 @@ pub fn joined<F: Planning>()
 /// answers are whole, over its value at the opening, is its value there.
 pub fn feeds_hold<F: Planning>()
     ensures { (f : F) → FeedsHold (F.talk f) }
+{}
+
+/// Every feed of an explained session: what was sent of it, its changes and what tells that some were skipped, is a front of
+/// what the answers of its Takes give, in their order; and these tell just what its queue skipped.
+pub fn skips_are_sent<F: Planning>()
+    ensures { (f : F) → SkipsAreSent (F.talk f) }
 {}
