@@ -72,3 +72,6 @@ AllNothingLeft = (key : List ℕ) (limits : Limits) → story.NothingLeft (talk 
 
 abbrev pub AllFeedsHold : Type 0
 AllFeedsHold = (key : List ℕ) (limits : Limits) → story.FeedsHold (talk key limits)
+
+abbrev pub AllSkipsAreSent : Type 0
+AllSkipsAreSent = (key : List ℕ) (limits : Limits) → story.SkipsAreSent (talk key limits)

@@ -1,5 +1,5 @@
 // Laws of sessions that plan ReQL.
-ghost use Rattle.reql_told.specs.Laws.{PlansAreTold, BatchesAgree, InfoIsServers, AllInOrder, AllFramesHandled, AllWornLate, AllFirstFailed, AllAreAnswered, AllValidClose, AllKept, AllOneMore, AllLearning, AllNothingLeft, AllFeedsHold, AllFeedsAreRead};
+ghost use Rattle.reql_told.specs.Laws.{PlansAreTold, BatchesAgree, InfoIsServers, AllInOrder, AllFramesHandled, AllWornLate, AllFirstFailed, AllAreAnswered, AllValidClose, AllKept, AllOneMore, AllLearning, AllNothingLeft, AllFeedsHold, AllSkipsAreSent, AllFeedsAreRead};
 ghost use Rattle.reql_told.specs.Refusing.{FirstRefusal, ShapeRefusal};
 
 /// Plans, as a session is told of them, take from no feed, close only what they opened and is open still, and tell of
@@ -33,8 +33,8 @@ pub fn server_is_told()
 /// its turns may take; its first failed send ends it; each frame that wants an answer is given one before the next is taken,
 /// but for a CONTINUE that waits; one that is given a valid input handles every frame of it and closes, but for a failed receive, a
 /// failed send, too few turns or want of memory; a hall whose histories go on explains a session still; the sessions of a
-/// desk divide what it did; and every feed that a session opened folds to its query's value at every change up to which
-/// its answers are whole.
+/// desk divide what it did; every feed that a session opened folds to its query's value at every change up to which its
+/// answers are whole; and what is sent of it tells just what its queue skipped, each time ahead of what came behind it.
 pub fn sessions_hold()
     ensures in_order { AllInOrder }
     ensures frames_handled { AllFramesHandled }
@@ -47,4 +47,5 @@ pub fn sessions_hold()
     ensures learning { AllLearning }
     ensures nothing_left { AllNothingLeft }
     ensures feeds_hold { AllFeedsHold }
+    ensures skips_are_sent { AllSkipsAreSent }
 {}

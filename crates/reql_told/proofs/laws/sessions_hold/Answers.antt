@@ -1,7 +1,7 @@
 use Rattle.reql_story.proofs.Answering as answering
 use Rattle.reql_story.proofs.Closings as closings
 use Rattle.reql_story.proofs.Counts as counts
-use Rattle.reql_story.proofs.Feeding.{session_fed}
+use Rattle.reql_story.proofs.Feeding.{session_fed, session_tells}
 use Rattle.reql_story.proofs.Orders.{handled}
 use Rattle.reql_story.proofs.Rests as rests
 use Rattle.reql_story.proofs.Unsent as unsent
@@ -43,3 +43,7 @@ returns-clause-nothing_left c = λ key limits. upward.nothing_left (talk key lim
 pub returns-clause-feeds_hold : goal.returns-clause-feeds_hold
 returns-clause-feeds_hold c = λ key limits seen share life good none slot feed stamp after o n le whole.
     session_fed (talk key limits) (comes_by limits) (plans_are_told key limits) slot feed seen share life good none stamp after o n le whole
+
+pub returns-clause-skips_are_sent : goal.returns-clause-skips_are_sent
+returns-clause-skips_are_sent c = λ key limits seen share life none slot feed stamp after o.
+    session_tells (talk key limits) (comes_by limits) (plans_are_told key limits) slot feed seen share life none stamp after o
