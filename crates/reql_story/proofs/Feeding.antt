@@ -46,7 +46,7 @@ module _ {A B : Type 0} where
   take_map f (suc n) [] = refl
   take_map f (suc n) (x ∷ xs) = ap (λ z. f x ∷ z) (take_map f n xs)
 
-abbrev Known1 : Type 0
+abbrev pub Known1 : Type 0
 Known1 = Act (Asked (Known WriteCmd IndexCmd FeedSpec)) Told (Unit {0}) Seen
 
 -- index commands open no feeds
@@ -57,7 +57,7 @@ by_two : (b : Bool) (x y : Said Summary Plain) → IsNone x → IsNone y → IsN
 by_two true x y p q = p
 by_two false x y p q = q
 
-index_opens_none : (j : Indexes) (n : IndexCmd) → number_in (index_said {M = Summary} {I = Plain} j n) ≡ None
+pub index_opens_none : (j : Indexes) (n : IndexCmd) → number_in (index_said {M = Summary} {I = Plain} j n) ≡ None
 index_opens_none j (create name i) = by_two (is_there name j) said.IndexExists said.Changed refl refl
 index_opens_none j (drop name) = by_two (is_there name j) said.Changed said.IndexMissing refl refl
 index_opens_none j (rename old new overwrite) =
@@ -133,7 +133,7 @@ same_given [] = refl
 same_given (t ∷ ts) = (λ i. same_said t.said i ++ same_given ts i)
 
 module _ {PL : Type 0} (k : Talk PL) (on : PL → Bool → ℕ → List Found → List Arm → Type 0) (σ φ : ℕ) (skips : Bool) where
-  abbrev Apart : Known1 → Type 0
+  abbrev pub Apart : Known1 → Type 0
   Apart a = IsNot φ (number_of a)
 
   not_opened : (s : Said Summary Plain) → IsNot φ (number_in s) → NotOpened k on σ φ skips false s
@@ -154,7 +154,7 @@ module _ {PL : Type 0} (k : Talk PL) (on : PL → Bool → ℕ → List Found �
   not_opens (On slot (Ran place order r) saved) h = λ e. not_opened r.said (subst (λ b. AllByRecursion Apart (map known_act (cond b (Ran place order r ∷ []) []))) e h).0
   not_opens other h = tt
 
-  all_not : (es : List Event) → AllByRecursion Apart (known_on σ es) → AllByRecursion (NotOpens k on σ φ skips) es
+  pub all_not : (es : List Event) → AllByRecursion Apart (known_on σ es) → AllByRecursion (NotOpens k on σ φ skips) es
   all_not [] h = tt
   all_not (e ∷ es) h =
       let both = subst (AllByRecursion Apart) (map-append known_act (acts_of σ e) (acts_on σ es)) h in

@@ -35,10 +35,10 @@ abbrev pub known_on : ℕ → List Event → List (Act (Asked (Known WriteCmd In
 known_on slot es = map known_act (acts_on slot es)
 
 module _ {PL : Type 0} (k : Talk PL) (on : PL → Bool → ℕ → List Found → List Arm → Type 0) (σ φ : ℕ) (skips : Bool) where
-  abbrev E : Type 0
+  abbrev pub E : Type 0
   E = Event
 
-  abbrev MM : Type 0
+  abbrev pub MM : Type 0
   MM = Mach PL
 
   abbrev pub OkDoing : Bool → Books → Doing PL → List (ℕ × Plain) → Type 0
@@ -71,7 +71,7 @@ module _ {PL : Type 0} (k : Talk PL) (on : PL → Bool → ℕ → List Found �
   NotOpens (On slot (Ran place order r) saved) = nat_eq slot σ ≡ true → NotOpened k on σ φ skips false r.said
   NotOpens e = Unit {0}
 
-  abbrev Res : Bool → List (ℕ × Plain) → List (ℕ × Plain) → List (ℕ × Plain) → Bool → MM → Type 0
+  abbrev pub Res : Bool → List (ℕ × Plain) → List (ℕ × Plain) → List (ℕ × Plain) → Bool → MM → Type 0
   Res c p new sent over n = ((q : List (ℕ × Plain)) × (p ++ new ≡ sent ++ q) × OkM c n q × (over ≡ false) × (c ≡ false → new ≡ [])) ⊎ ((over ≡ true) × (sent ≡ []) × OkM false n [])
 
   keeps : (c : Bool) (n x : MM) (p : List (ℕ × Plain)) → n ≡ x → OkM c x p → Res c p [] [] false n
@@ -143,7 +143,7 @@ module _ {PL : Type 0} (k : Talk PL) (on : PL → Bool → ℕ → List Found �
     step_ok c m n (Say token a false) p o s h = keeps c n _ p s.goes tt
     step_ok c m n Want p o s h = keeps c n _ p s.goes (ok_goes c m s.back (wanted m.books s.task) p (ok_wanted k on σ φ skips c m.books s.task p (at_doing c m (Busy s.back s.task) p s.doing o)))
 
-    nils : (u v : List (ℕ × Plain)) → u ++ v ≡ [] → (u ≡ []) × (v ≡ [])
+    pub nils : (u v : List (ℕ × Plain)) → u ++ v ≡ [] → (u ≡ []) × (v ≡ [])
     nils [] v h = (refl, h)
     nils (y ∷ u) v h = absurd (let z : y ∷ (u ++ v) ≡ [] = h in cc)
 
@@ -201,7 +201,7 @@ module _ {PL : Type 0} (k : Talk PL) (on : PL → Bool → ℕ → List Found �
         ]
 
     -- the feed is opened
-    opens : (m n : MM) (place : ℕ) (order : Order) (r : Told) (saved : Saved) (request : FeedSpec) (opening : List Plain) → order.cmd ≡ cmds.Subscribe request → r.said ≡ said.Opened φ opening → Step k m (On σ (Ran place order r) saved) n → OkM false m [] → OkM true n []
+    pub opens : (m n : MM) (place : ℕ) (order : Order) (r : Told) (saved : Saved) (request : FeedSpec) (opening : List Plain) → order.cmd ≡ cmds.Subscribe request → r.said ≡ said.Opened φ opening → Step k m (On σ (Ran place order r) saved) n → OkM false m [] → OkM true n []
     opens m n place order r saved request opening a b (inl t) o = subst (λ z. OkM true z []) (sym t.goes) (ok_goes true m t.back (ran k m.books t.task σ order.cmd r saved) [] (by_task t.task t.runs (at_doing false m (Busy t.back t.task) [] t.doing o)))
       where
         no_take : (feed max : ℕ) → order ≡ take_order feed max → ⊥
@@ -225,7 +225,7 @@ module _ {PL : Type 0} (k : Talk PL) (on : PL → Bool → ℕ → List Found �
     opens m n place order r saved request opening a b (inr t) o = absurd (let z : cmds.Unsubscribe t.0.feed ≡ cmds.Subscribe request = sym (ap (λ (w : Order). w.cmd) t.1) ∙ a in cc)
 
     -- two parts of a run
-    parts : (m n : MM) (xs ys : List E) → Run k m (xs ++ ys) n → (x : MM) × Run k m xs x × Run k x ys n
+    pub parts : (m n : MM) (xs ys : List E) → Run k m (xs ++ ys) n → (x : MM) × Run k m xs x × Run k x ys n
     parts m n [] ys r = (m, refl, r)
     parts m n (x ∷ xs) ys r = let q = parts r.0 n xs ys r.2 in (q.0, (r.0, r.1, q.1), q.2)
 

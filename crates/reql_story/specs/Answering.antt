@@ -40,7 +40,7 @@ IsStill (Leaving arms end) = Unit {0}
 IsStill other = ⊥
 
 module _ {PL : Type 0} (k : Talk PL) where
-  -- where memory is wanted while a body is read, it isn't known that no answer is wanted
+  -- where memory is wanted while a body is read, it isn't known that no answer is wanted, and one is given, also with `noreply`
   abbrev pub wants_answer : List ℕ → Bool → Bool
   wants_answer body true = wants (k.asked body)
   wants_answer body false = true
@@ -61,8 +61,9 @@ module _ {PL : Type 0} (k : Talk PL) where
     pub most : said token es + times token m.books.waiting ≤ wanted token es
     pub all : IsStill m.doing → said token es + times token m.books.waiting ≡ wanted token es
 
-  -- Each frame that wants an answer is given one, with its token, before the next frame is taken, but for a CONTINUE that waits,
-  -- which is answered at a later visit or before its feed is stopped. So it is after each beginning of a session's events; only
-  -- where a send failed, what was under way, and what was still to be visited, may be left without one.
+  -- Each frame that wants an answer is given one, with its token, before the next frame is taken, but for a CONTINUE that waits:
+  -- that one is answered at a later visit, or before its feed is stopped, or not at all where the session ends first. Why it waits
+  -- this does not say (`Waiting`). So it is after each beginning of a session's events; only where a send failed, what was under
+  -- way, and what was still to be visited, may be left without one.
   abbrev pub EachIsAnswered : Type 0
   EachIsAnswered = (es : List Event) (m : Mach PL) → Run k fresh es m → (token : ℕ) → Answers token es m

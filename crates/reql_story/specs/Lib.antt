@@ -8,5 +8,6 @@ pub mod Minding
 pub mod Worlds
 pub mod Laws
 pub mod Answering
+pub mod Waiting
 pub mod Sample
 pub mod Worked

@@ -3,6 +3,7 @@ ghost use Rattle.reql_hall.specs.Shares.{IsKept};
 ghost use Rattle.reql_story.specs.Answering.{EachIsAnswered};
 ghost use Rattle.reql_story.specs.Explained.{ExplainedBy};
 ghost use Rattle.reql_story.specs.Laws.{InOrder, FramesHandled, WornLate, FirstFailed, ValidCloses, OneMore, Learning, NothingLeft, FeedsHold, SkipsAreSent};
+ghost use Rattle.reql_story.specs.Waiting.{StartsToWait, WaitsOn, NothingWasThere};
 
 use crate::planning::Planning;
 
@@ -30,11 +31,24 @@ pub fn first_failed<F: Planning>()
     ensures { (f : F) → FirstFailed (F.talk f) }
 {}
 
-/// Each frame is answered just once, with its token, before the next one is taken, but for those that come with `noreply`,
-/// and for a CONTINUE that waits, which is answered later; told by counting, for each token, the answers that its frames
-/// want and those that were said with it. Where a send failed no more were said than that.
+/// Each frame that wants an answer is given just one, with its token, before the next one is taken, but for a CONTINUE that
+/// waits, which is answered later, or not at all where the session ends first. A START, and a body that can't be read or
+/// planned, wants none where it comes with `noreply`; a body for which memory is wanted while it is read wants one whatever it
+/// says. It is told by counting, for each token, the answers that its frames want and those that were said with it. Where a
+/// send failed no more were said than that.
 pub fn each_is_answered<F: Planning>()
     ensures { (f : F) → EachIsAnswered (F.talk f) }
+{}
+
+/// A CONTINUE comes to wait only where nothing was there for it: it was taken up, or visited, with nothing of its feed left to
+/// be sent, and a Take of each arm of the feed, in order, of a batch of the plan's at most, found neither items nor a skip, a
+/// dropped table or a full history; behind an arm whose changes came to no item no other is asked. Whoever waits asked so in
+/// vain in this very turn, and has waited since. In a hall that explains the session each of those Takes found its feed open
+/// in its table, with nothing skipped and nothing queued, or with changes of which the net is nothing.
+pub fn starts_to_wait<F: Planning>()
+    ensures starts { (f : F) → StartsToWait (F.talk f) }
+    ensures goes_on { (f : F) → WaitsOn (F.talk f) }
+    ensures for_nothing { (f : F) → NothingWasThere (F.talk f) }
 {}
 
 /// What a session was given, with more to come only where its input wasn't over, is valid where it is nothing, or a
