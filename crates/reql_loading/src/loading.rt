@@ -3,7 +3,7 @@ ghost use Rattle.std.specs.Prelude.{◌<◌, length, map, string_bytes, IfOk, If
 ghost use Rattle.reql_words.specs.Words.{asks};
 ghost use Rattle.reql_core.specs.Core.{state_of};
 ghost use Rattle.reql_open_feed.specs.Open.{held_in};
-ghost use Rattle.reql_told.specs.Laws.{AllInOrder, AllFramesHandled, AllWornLate, AllFirstFailed, AllAreAnswered, AllValidClose, AllFeedsHold, AllFeedsAreRead};
+ghost use Rattle.reql_told.specs.Laws.{AllInOrder, AllFramesHandled, AllWornLate, AllFirstFailed, AllAreAnswered, AllWaitForNothing, AllValidClose, AllFeedsHold, AllSkipsAreSent, AllFeedsAreRead};
 ghost use Rattle.reql_serve.specs.Many.{at_end};
 ghost use Rattle.reql_loading.specs.Loading.{IsServed, Loads, Prints, Reports, Unloaded};
 
@@ -99,8 +99,9 @@ fn print<K: Sink>(
 ///
 /// With other words the status is 2, and nothing is served or printed. What is proved of every session of these plans stands
 /// beside what these did: its input is handled in order, every whole frame of it, each that wants an answer is given just one,
-/// but for a CONTINUE that waits and after a failed send, it ends with its first failed send, and every feed that it opened follows something and folds to the value of its query.
-/// What else is, of planning and refusals, stands beside `run` of `reql_run`.
+/// but for a CONTINUE that waits, since its feed had nothing for it, and after a failed send, it ends with its first failed
+/// send, and every feed that it opened follows something, folds to the value of its query and tells just what its queue
+/// skipped. What else is, of planning and refusals, stands beside `run` of `reql_run`.
 pub fn load<R, K: Sink>(rt: &R, alloc: Global, words: &[String], out: &mut K) -> Loaded
 where
     R: Threads + Wait + Sync,
@@ -114,8 +115,10 @@ where
     ensures worn_late { AllWornLate }
     ensures first_failed { AllFirstFailed }
     ensures answered { AllAreAnswered }
+    ensures waits_for_nothing { AllWaitForNothing }
     ensures valid_close { AllValidClose }
     ensures feeds_hold { AllFeedsHold }
+    ensures skips_are_sent { AllSkipsAreSent }
     ensures feeds_are_read { AllFeedsAreRead }
 {
     sessions_hold();

@@ -6,7 +6,7 @@ ghost use Rattle.reql_core.specs.Core.{state_of};
 ghost use Rattle.reql_open_feed.specs.Open.{held_in};
 ghost use Rattle.reql_law.specs.Laws.{DocsAtStamp, StampCounts};
 ghost use Rattle.reql_law.specs.Terms.{PointsShowTheirTerms, RangesShowTheirTerms, LimitsShowTheirTerms};
-ghost use Rattle.reql_told.specs.Laws.{AllInOrder, AllFramesHandled, AllWornLate, AllFirstFailed, AllAreAnswered, AllValidClose, AllFeedsHold, AllFeedsAreRead, BatchesAgree, InfoIsServers, PlansAreTold};
+ghost use Rattle.reql_told.specs.Laws.{AllInOrder, AllFramesHandled, AllWornLate, AllFirstFailed, AllAreAnswered, AllWaitForNothing, AllValidClose, AllFeedsHold, AllSkipsAreSent, AllFeedsAreRead, BatchesAgree, InfoIsServers, PlansAreTold};
 ghost use Rattle.reql_told.specs.Refusing.{FirstRefusal, ShapeRefusal};
 ghost use Rattle.reql_net.specs.Nets.{IsUntouched};
 ghost use Rattle.reql_serve.specs.Working.{outside};
@@ -196,6 +196,7 @@ where
     ensures worn_late { AllWornLate }
     ensures first_failed { AllFirstFailed }
     ensures answered { AllAreAnswered }
+    ensures waits_for_nothing { AllWaitForNothing }
     ensures valid_close { AllValidClose }
     ensures shape { ShapeRefusal }
     ensures first { FirstRefusal }
@@ -203,6 +204,7 @@ where
     ensures batches { BatchesAgree }
     ensures server { InfoIsServers }
     ensures feeds_hold { AllFeedsHold }
+    ensures skips_are_sent { AllSkipsAreSent }
     ensures feeds_are_read { AllFeedsAreRead }
     ensures documents { DocsAtStamp }
     ensures stamps { StampCounts }

@@ -6,7 +6,7 @@ ghost use Rattle.reql_core.specs.Core.{state_of};
 ghost use Rattle.reql_open_feed.specs.Open.{held_in};
 ghost use Rattle.reql_law.specs.Laws.{DocsAtStamp, StampCounts};
 ghost use Rattle.reql_law.specs.Terms.{PointsShowTheirTerms, RangesShowTheirTerms, LimitsShowTheirTerms};
-ghost use Rattle.reql_told.specs.Laws.{AllInOrder, AllFramesHandled, AllWornLate, AllFirstFailed, AllAreAnswered, AllValidClose, AllFeedsHold, AllFeedsAreRead, BatchesAgree, InfoIsServers, PlansAreTold};
+ghost use Rattle.reql_told.specs.Laws.{AllInOrder, AllFramesHandled, AllWornLate, AllFirstFailed, AllAreAnswered, AllWaitForNothing, AllValidClose, AllFeedsHold, AllSkipsAreSent, AllFeedsAreRead, BatchesAgree, InfoIsServers, PlansAreTold};
 ghost use Rattle.reql_told.specs.Refusing.{FirstRefusal, ShapeRefusal};
 ghost use Rattle.reql_run.specs.Running.{IsServed, Serves, Unserved};
 
@@ -56,11 +56,12 @@ fn serve<R: Wait, L: Link + Drop, D: Dice + Drop, T: Clock + Drop>(
 /// The link is fresh. With other words the status is 2, and where memory is wanted before a session begins it is 8; then the
 /// link comes back as it was handed in, so that nothing was heard or said. What is proved of every session of these plans,
 /// whatever its input, stands beside what this one did: its input is handled in order, every whole frame of it; each frame that
-/// wants an answer is given just one, but for a CONTINUE that waits and after a failed send; a valid input,
-/// which is nothing or a greeting that is accepted and whole frames within the limit, is handled to its last frame, and the
-/// status is 0, unless a receive or a send failed, it took more turns than there are, or memory was wanted; every request is
-/// answered by its plan, or by the first of its refusals; and every feed that it opened follows a document, a range or the
-/// first of an order, so that none stays silent since its term could not be read, and folds to the value of its query.
+/// wants an answer is given just one, but for a CONTINUE that waits and after a failed send, and one waits only where its feed
+/// had nothing for it; a valid input, which is nothing or a greeting that is accepted and whole frames within the limit, is
+/// handled to its last frame, and the status is 0, unless a receive or a send failed, it took more turns than there are, or
+/// memory was wanted; every request is answered by its plan, or by the first of its refusals; and every feed that it opened
+/// follows a document, a range or the first of an order, so that none stays silent since its term could not be read, folds to
+/// the value of its query, and tells just what its queue skipped.
 pub fn run<R: Wait, L: Link + Drop, D: Dice + Drop, T: Clock + Drop>(
     rt: &R,
     alloc: Global,
@@ -80,6 +81,7 @@ pub fn run<R: Wait, L: Link + Drop, D: Dice + Drop, T: Clock + Drop>(
     ensures worn_late { AllWornLate }
     ensures first_failed { AllFirstFailed }
     ensures answered { AllAreAnswered }
+    ensures waits_for_nothing { AllWaitForNothing }
     ensures valid_close { AllValidClose }
     ensures shape { ShapeRefusal }
     ensures first { FirstRefusal }
@@ -87,6 +89,7 @@ pub fn run<R: Wait, L: Link + Drop, D: Dice + Drop, T: Clock + Drop>(
     ensures batches { BatchesAgree }
     ensures server { InfoIsServers }
     ensures feeds_hold { AllFeedsHold }
+    ensures skips_are_sent { AllSkipsAreSent }
     ensures feeds_are_read { AllFeedsAreRead }
     ensures documents { DocsAtStamp }
     ensures stamps { StampCounts }

@@ -10,6 +10,7 @@ use Rattle.reql_law.specs.declared.limits.Limits.{Limits}
 use Rattle.reql_plan_law.specs.declared.parts.Plan.{Plan}
 use Rattle.reql_plan_law.specs.Follows.{IsRead}
 use Rattle.reql_story.specs.Answering.{EachIsAnswered}
+use Rattle.reql_story.specs.Waiting.{NothingWasThere}
 use Rattle.reql_story.specs.Bodies.{server_info}
 use Rattle.reql_story.specs.Explained.{ExplainedBy}
 use Rattle.reql_story.specs.Laws as story
@@ -54,6 +55,9 @@ AllFirstFailed = (key : List ℕ) (limits : Limits) → story.FirstFailed (talk 
 
 abbrev pub AllAreAnswered : Type 0
 AllAreAnswered = (key : List ℕ) (limits : Limits) → EachIsAnswered (talk key limits)
+
+abbrev pub AllWaitForNothing : Type 0
+AllWaitForNothing = (key : List ℕ) (limits : Limits) → NothingWasThere (talk key limits)
 
 abbrev pub AllValidClose : Type 0
 AllValidClose = (key : List ℕ) (limits : Limits) → story.ValidCloses (talk key limits)

@@ -1,6 +1,7 @@
 use Rattle.reql_story.proofs.Answering as answering
 use Rattle.reql_story.proofs.Closings as closings
 use Rattle.reql_story.proofs.Counts as counts
+use Rattle.reql_story.proofs.Idling.{nothing_was_there}
 use Rattle.reql_story.proofs.Feeding.{session_fed, session_tells}
 use Rattle.reql_story.proofs.Orders.{handled}
 use Rattle.reql_story.proofs.Rests as rests
@@ -24,6 +25,9 @@ returns-clause-first_failed c = λ key limits. unsent.first_failed (talk key lim
 
 pub returns-clause-each_is_answered : goal.returns-clause-each_is_answered
 returns-clause-each_is_answered c = λ key limits. answering.each_is_answered (talk key limits) (comes_by limits) (plans_are_told key limits)
+
+pub returns-clause-waits_for_nothing : goal.returns-clause-waits_for_nothing
+returns-clause-waits_for_nothing c = λ key limits. nothing_was_there (talk key limits) (comes_by limits) (plans_are_told key limits)
 
 pub returns-clause-valid_close : goal.returns-clause-valid_close
 returns-clause-valid_close c = λ key limits. closings.valid_closes (talk key limits)
