@@ -29,19 +29,19 @@ use Rattle.reql_law.proofs.Closed.{same_ok}
 use Rattle.reql_plan_law.specs.declared.parts.Opening.{Opening}
 use Rattle.reql_plan_law.specs.declared.parts.Plan.{Plan}
 use Rattle.reql_plan_law.specs.declared.parts.Setting.{Setting}
-use Rattle.reql_plan_law.specs.Asked.{asks_along, opens_feed, asks_feed, feeds_asked, clock, is_clocked, read_from, Changing, new_number, opened_as, once_opened, reached, asked_for, FeedsAreAskedInTurn, AsksForItsOwn, NoOtherFeedsAreAsked, unanswered, IsOfItsTerm, EachIsOfItsTerm}
-use Rattle.reql_plan_law.specs.Course.{Open, lost, moment_heard, seen_at, seen_heard, looks, name_or_empty, closing, is_among, opened_by, opened_if, open_heard, subscribed, opens, changes, has_room, shown, any_command, by_task, carried, branched, held, read, timed, at_moment, resolving, course, sent, order_of, names_heard}
+use Rattle.reql_plan_law.specs.Asked.{asks_along, opens_feed, asks_feed, feeds_asked, clock, is_clocked, read_from, Changing, new_number, opened_as, once_opened, reached, asked_for, FeedsAreAskedInTurn, AsksForItsOwn, NoOtherFeedsAreAsked, unanswered, IsOfItsTerm, EachIsOfItsTerm, AreOpened, EndsWithItsOwn, FeedsEndWithTheirOwn}
+use Rattle.reql_plan_law.specs.Course.{Open, first_items, notes_of, arm_of, lost, moment_heard, seen_at, seen_heard, looks, name_or_empty, closing, is_among, opened_by, opened_if, open_heard, subscribed, opens, changes, has_room, shown, any_command, by_task, carried, branched, held, read, timed, at_moment, resolving, course, sent, order_of, names_heard}
 use Rattle.reql_plan_law.specs.Feeding.{Told, Feeding, feeding}
 use Rattle.reql_plan_law.specs.Held.{Held, Read, nothing_read, with_view, dropped}
 use Rattle.reql_plan_law.specs.Minds.{Feeds, has_feed}
-use Rattle.reql_plan_law.specs.Move.{Ask, look_names, tell, look, run, Replied, Heard, names, told, looked, ran, changed, rolled, unsent}
+use Rattle.reql_plan_law.specs.Move.{Ask, look_names, tell, look, run, Replied, Heard, names, told, looked, ran, changed, rolled, Arm, Item, Outcome, unsent, atom, grouped, sequence, feed, stop}
 use Rattle.reql_plan_law.specs.Opens.{is_asked, at_time}
 use Rattle.reql_plan_law.specs.Reads.{has_now, leaks, now_rule, read_slots}
 use Rattle.reql_plan_law.specs.Request.{Request, ends, asks, request, give, refuse, from, Next, answered, moves, next}
 use Rattle.reql_plan_law.specs.Texts.{undetermined, too_many_cursors, too_many_feeds, history_full}
 use Rattle.reql_plan_law.specs.Theirs.{terms_of, IsItsOwn, AreTheirOwn}
 use Rattle.reql_plan_law.proofs.Carried.{Sound, AreBelow, SoundBy, resolved_sound, time_sound}
-use Rattle.reql_plan_law.proofs.Opens.{IsFollowed, Follows, Always, keeps_cond, keeps_wrote, keeps_for_each, keeps_catalogue, keeps_table, keeps_closing, keeps_shown, keeps_branched}
+use Rattle.reql_plan_law.proofs.Opens.{IsFollowed, Follows, EndsBy, Always, gives_cond, keeps_wrote, keeps_for_each, keeps_catalogue, keeps_table, keeps_closing, keeps_shown, keeps_branched}
 use Rattle.reql_plan_law.proofs.Theirs.{openings_are_theirs}
 
 -- ---- what a request asks along these answers
@@ -67,18 +67,18 @@ asked_by_plan p s hs = ap (filter asks_feed) (along_sent s (request (course p s)
 skips_feed : (q : Ask) (on : Heard → Request) (h : Heard) (hs : List Heard) → asks_feed q ≡ false → feeds_in (asks q on) (h ∷ hs) ≡ feeds_in (on h) hs
 skips_feed q on h hs none = ap (λ b. cond b (q ∷ feeds_in (on h) hs) (feeds_in (on h) hs)) none
 
--- ---- a request that never asks for a feed
+-- ---- a request that never asks for a feed, and ends with none
 abbrev Never : ℕ → FeedSpec → Type 0
 Never n spec = ⊥
 
 abbrev Quiet : Request → Type 0
-Quiet r = Always Never r
+Quiet r = Always Never ⊥ r
 
-no_feed_by : (n : ℕ) (c : Cmd) → IsFollowed Never n c → opens_feed c ≡ false
+no_feed_by : (n : ℕ) (c : Cmd) → IsFollowed Never ⊥ n c → opens_feed c ≡ false
 no_feed_by n (cmds.Subscribe spec) f = absurd f
 no_feed_by n c f = refl
 
-no_feed : (q : Ask) → Follows Never q → asks_feed q ≡ false
+no_feed : (q : Ask) → Follows Never ⊥ q → asks_feed q ≡ false
 no_feed (run n order) f = no_feed_by n order.cmd f
 no_feed q f = refl
 
@@ -86,6 +86,40 @@ quiet_along : (r : Request) (hs : List Heard) → Quiet r → feeds_in r hs ≡ 
 quiet_along (ends o) hs a = refl
 quiet_along (asks q on) [] a = ap (λ b. cond b (q ∷ []) []) (no_feed q a.0)
 quiet_along (asks q on) (h ∷ hs) a = skips_feed q on h hs (no_feed q a.0) ∙ quiet_along (on h) hs (a.1 h)
+
+-- what comes next of a request is no feed that is told
+abbrev NoFeed : Next → Type 0
+NoFeed (answered (feed arms notes items)) = ⊥
+NoFeed x = Unit {0}
+
+no_end : (o : Outcome) → EndsBy Never ⊥ o → NoFeed (answered o)
+no_end (feed arms notes items) e = absurd e
+no_end unsent e = tt
+no_end (atom d) e = tt
+no_end (grouped gs) e = tt
+no_end (sequence ds) e = tt
+no_end (stop why) e = tt
+
+quiet_end : (r : Request) (hs : List Heard) → Quiet r → NoFeed (next r hs)
+quiet_end (ends o) hs a = no_end o a
+quiet_end (asks q on) [] a = tt
+quiet_end (asks q on) (h ∷ hs) a = quiet_end (on h) hs (a.1 h)
+
+-- both: what it asked for, and what comes next
+abbrev seen_of : Request → List Heard → List Ask × Next
+seen_of r hs = (feeds_in r hs, next r hs)
+
+skips_both : (q : Ask) (on : Heard → Request) (h : Heard) (hs : List Heard) → asks_feed q ≡ false → seen_of (asks q on) (h ∷ hs) ≡ seen_of (on h) hs
+skips_both q on h hs none = ap (λ qs. (qs, next (on h) hs)) (skips_feed q on h hs none)
+
+abbrev Silent : List Ask × Next → Type 0
+Silent x = (x.0 ≡ []) × NoFeed x.1
+
+quiet_silent : (r : Request) (hs : List Heard) → Quiet r → Silent (seen_of r hs)
+quiet_silent r hs a = (quiet_along r hs a, quiet_end r hs a)
+
+silent_as : (x y : List Ask × Next) → x ≡ y → Silent y → Silent x
+silent_as x y same is = subst Silent (sym same) is
 
 -- ---- the feeds of CHANGES in turn
 abbrev held_of : List Open → Feeds
@@ -117,10 +151,10 @@ module _ (e : Held) where
     said_asks stamp (said.Opened number items) =
         let k : Open = record { slot = o.slot; feed = number; stamp = stamp; opening = items } in
         opened_asks k refl (is_among o.slot number before) ∙ ap (λ b. rest (cond b None (Some number))) (among_held o.slot number before)
-    said_asks stamp said.IndexMissing = quiet_along _ hs (keeps_closing Never e (no_index (name_or_empty o.spec.index)) before on)
-    said_asks stamp (said.FeedsFull count) = quiet_along _ hs (keeps_closing Never e too_many_feeds before on)
-    said_asks stamp (said.HistoryFull count) = quiet_along _ hs (keeps_closing Never e history_full before on)
-    said_asks stamp said.Gone = quiet_along _ hs (keeps_closing Never e (dropped e.names o.slot) before on)
+    said_asks stamp said.IndexMissing = quiet_along _ hs (keeps_closing Never ⊥ e (no_index (name_or_empty o.spec.index)) before on)
+    said_asks stamp (said.FeedsFull count) = quiet_along _ hs (keeps_closing Never ⊥ e too_many_feeds before on)
+    said_asks stamp (said.HistoryFull count) = quiet_along _ hs (keeps_closing Never ⊥ e history_full before on)
+    said_asks stamp said.Gone = quiet_along _ hs (keeps_closing Never ⊥ e (dropped e.names o.slot) before on)
     said_asks stamp (said.Done x) = refl
     said_asks stamp said.Changed = refl
     said_asks stamp said.IndexExists = refl
@@ -142,15 +176,19 @@ module _ (e : Held) where
     heard_asks (changed r) = refl
     heard_asks (rolled bytes) = refl
 
-  subscribed_asks : (before : List Open) (os : List Opening) (on : List Open → Request) → ((ks : List Open) → Quiet (on ks)) → (hs : List Heard)
-      → feeds_in (subscribed e before os on) hs ≡ all_for (reached (held_of before) os hs)
-  subscribed_asks before [] on quiet hs = quiet_along (on before) hs (quiet before)
-  subscribed_asks before (o ∷ os) on quiet [] = refl
-  subscribed_asks before (o ∷ os) on quiet (h ∷ hs) = ap (λ qs. asked_for e o ∷ qs)
-      (heard_asks before o os hs (λ k. subscribed e (before ++ k ∷ []) os on) (λ k. subscribed_asks (before ++ k ∷ []) os on quiet hs) h)
+  subscribed_asks : (before : List Open) (os : List Opening) (out : List Open → Outcome) (hs : List Heard)
+      → feeds_in (subscribed e before os (λ ks. ends (out ks))) hs ≡ all_for (reached (held_of before) os hs)
+  subscribed_asks before [] out hs = refl
+  subscribed_asks before (o ∷ os) out [] = refl
+  subscribed_asks before (o ∷ os) out (h ∷ hs) = ap (λ qs. asked_for e o ∷ qs)
+      (heard_asks before o os hs (λ k. subscribed e (before ++ k ∷ []) os (λ ks. ends (out ks))) (λ k. subscribed_asks (before ++ k ∷ []) os out hs) h)
+
+  -- what is told of them, where all are open
+  abbrev told_of : Feeding → List Open → Outcome
+  told_of f ks = feed (map (arm_of e) ks) (notes_of f) (first_items f.told ks)
 
   opens_asks : (f : Feeding) (hs : List Heard) → feeds_in (opens e f ends) hs ≡ all_for (reached [] f.openings hs)
-  opens_asks f hs = subscribed_asks [] f.openings _ (λ ks. tt) hs
+  opens_asks f hs = subscribed_asks [] f.openings (told_of f) hs
 
   -- where it may open them
   abbrev if_room : Bool → Feeding → Request
@@ -158,6 +196,9 @@ module _ (e : Held) where
 
   abbrev if_wanted : Bool → Feeding → Request
   if_wanted b f = cond b (give unsent) (cond (has_room e.setting) (opens e f) (refuse too_many_cursors)) ends
+
+abbrev when_free : Plan → Setting → Named → Form → Bool → Request
+when_free p s ns f b = cond b (refuse undetermined) (give f) (λ g. at_moment p s ns g ends)
 
 -- ---- what is so of a request as it goes on, whatever moves it made that ask for no feed
 module _ {X : Type 0} (F : Request → List Heard → X)
@@ -202,13 +243,10 @@ module _ {X : Type 0} (F : Request → List Heard → X)
 
   -- the names
   module _ (p : Plan) (s : Setting) (ns : Named) where
-    abbrev when_free : Form → Bool → Request
-    when_free f b = cond b (refuse undetermined) (give f) (λ g. at_moment p s ns g ends)
-
     resolved_on : (f : Form) (hs : List Heard) → resolved ns p.db p.term ≡ Ok f → leaks false f ≡ false → F (resolving p s ns ends) hs ≡ F (at_moment p s ns f ends) hs
     resolved_on f hs same free =
-        ap (λ a. F (from a (λ x. when_free x (leaks false x))) hs) same
-        ∙ ap (λ b. F (when_free f b) hs) free
+        ap (λ a. F (from a (λ x. when_free p s ns x (leaks false x))) hs) same
+        ∙ ap (λ b. F (when_free p s ns f b) hs) free
 
   -- and the feeds, where it may open them
   changes_on : (e : Held) (fs : Forms) (ms : NamedForms) (f : Feeding) (hs : List Heard) → feeding e fs ms ≡ Ok f → e.setting.noreply ≡ false → has_room e.setting ≡ true
@@ -232,7 +270,7 @@ module _ {X : Type 0} (F : Request → List Heard → X)
 pub feeds_are_asked_in_turn : FeedsAreAskedInTurn
 feeds_are_asked_in_turn p s hs c = asked_by_plan p s hs ∙ comes_to_feeds feeds_in skips_feed p s hs c ∙ opens_asks (held p s c.known c.read) c.feeds c.replies
 
--- ---- a plan that asks for none, or comes to the feeds of a CHANGES
+-- ---- a plan that asks for none and ends with none, or comes to the feeds of a CHANGES
 
 -- the snapshots are heard, one after another, or it asks for none
 module _ (ns : Named) (on : Read → Request) where
@@ -244,7 +282,7 @@ module _ (ns : Named) (on : Read → Request) where
     pub sees : read_from ns r slots seen ≡ Some read
 
   abbrev LooksOr : Read → List ℕ → List Heard → Type 0
-  LooksOr r slots hs = (feeds_in (looks ns r slots on) hs ≡ []) ⊎ Seeing r slots hs
+  LooksOr r slots hs = Silent (seen_of (looks ns r slots on) hs) ⊎ Seeing r slots hs
 
   one_more : (r : Read) (n : ℕ) (slots : List ℕ) (at : Seen) (hs : List Heard) (found : List Document × Indexes) → at.view ≡ Some found → Seeing (with_view ns r n at found) slots hs
       → Seeing r (n ∷ slots) (looked at ∷ hs)
@@ -258,8 +296,8 @@ module _ (ns : Named) (on : Read → Request) where
 
   seen_or : (r : Read) (n : ℕ) (slots : List ℕ) (at : Seen) (hs : List Heard) (o : Option (List Document × Indexes)) → at.view ≡ o
       → ((found : List Document × Indexes) → LooksOr (with_view ns r n at found) slots hs)
-      → (feeds_in (seen_at ns r n at o (λ s. looks ns s slots on)) hs ≡ []) ⊎ Seeing r (n ∷ slots) (looked at ∷ hs)
-  seen_or r n slots at hs None same more = inl refl
+      → Silent (seen_of (seen_at ns r n at o (λ s. looks ns s slots on)) hs) ⊎ Seeing r (n ∷ slots) (looked at ∷ hs)
+  seen_or r n slots at hs None same more = inl (refl, tt)
   seen_or r n slots at hs (Some found) same more = elim (more found) [
     | inl none ↦ inl none
     | inr x ↦ inr (one_more r n slots at hs found same x)
@@ -267,13 +305,13 @@ module _ (ns : Named) (on : Read → Request) where
 
   looks_or : (r : Read) (slots : List ℕ) (hs : List Heard) → LooksOr r slots hs
   looks_or r [] hs = inr (record { seen = []; replies = hs; read = r; heard = refl; sees = refl })
-  looks_or r (n ∷ slots) [] = inl refl
+  looks_or r (n ∷ slots) [] = inl (refl, tt)
   looks_or r (n ∷ slots) (looked at ∷ hs) = seen_or r n slots at hs at.view refl (λ found. looks_or (with_view ns r n at found) slots hs)
-  looks_or r (n ∷ slots) (names x ∷ hs) = inl refl
-  looks_or r (n ∷ slots) (told x ∷ hs) = inl refl
-  looks_or r (n ∷ slots) (ran x v ∷ hs) = inl refl
-  looks_or r (n ∷ slots) (changed x ∷ hs) = inl refl
-  looks_or r (n ∷ slots) (rolled x ∷ hs) = inl refl
+  looks_or r (n ∷ slots) (names x ∷ hs) = inl (refl, tt)
+  looks_or r (n ∷ slots) (told x ∷ hs) = inl (refl, tt)
+  looks_or r (n ∷ slots) (ran x v ∷ hs) = inl (refl, tt)
+  looks_or r (n ∷ slots) (changed x ∷ hs) = inl (refl, tt)
+  looks_or r (n ∷ slots) (rolled x ∷ hs) = inl (refl, tt)
 
 -- the moment is heard where it is asked for, or it asks for none
 module _ (p : Plan) (s : Setting) (ns : Named) (f : Form) where
@@ -286,21 +324,21 @@ module _ (p : Plan) (s : Setting) (ns : Named) (f : Form) where
     pub carried : at_time moment f ≡ Ok term
 
   moment_or : (n : ℤ) (hs : List Heard) (b : Bool) (a : Answer Form) → is_in n ≡ b → rewritten (now_rule n) f ≡ a
-      → (feeds_in (cond b (give n) (refuse (number_fault OverRange)) (λ m. from (rewritten (now_rule m) f) (λ g. read p s ns g ends))) hs ≡ []) ⊎ Timing true (told (Some n) ∷ hs)
-  moment_or n hs false a c h = inl refl
-  moment_or n hs true (Err why) c h = inl (ap (λ x. feeds_in (from x (λ g. read p s ns g ends)) hs) h)
+      → Silent (seen_of (cond b (give n) (refuse (number_fault OverRange)) (λ m. from (rewritten (now_rule m) f) (λ g. read p s ns g ends))) hs) ⊎ Timing true (told (Some n) ∷ hs)
+  moment_or n hs false a c h = inl (refl, tt)
+  moment_or n hs true (Err why) c h = inl (silent_as _ _ (ap (λ x. seen_of (from x (λ g. read p s ns g ends)) hs) h) (refl, tt))
   moment_or n hs true (Ok g) c h = inr (record { moment = Some n; rest = hs; term = g; heard = refl; clocked = c; carried = h })
 
-  clock_or : (b : Bool) (hs : List Heard) → (feeds_in (cond b (timed p s ns f) (read p s ns f) ends) hs ≡ []) ⊎ Timing b hs
+  clock_or : (b : Bool) (hs : List Heard) → Silent (seen_of (cond b (timed p s ns f) (read p s ns f) ends) hs) ⊎ Timing b hs
   clock_or false hs = inr (record { moment = None; rest = hs; term = f; heard = refl; clocked = refl; carried = refl })
-  clock_or true [] = inl refl
+  clock_or true [] = inl (refl, tt)
   clock_or true (told (Some n) ∷ hs) = moment_or n hs (is_in n) (rewritten (now_rule n) f) refl refl
-  clock_or true (told None ∷ hs) = inl refl
-  clock_or true (names x ∷ hs) = inl refl
-  clock_or true (looked x ∷ hs) = inl refl
-  clock_or true (ran x v ∷ hs) = inl refl
-  clock_or true (changed x ∷ hs) = inl refl
-  clock_or true (rolled x ∷ hs) = inl refl
+  clock_or true (told None ∷ hs) = inl (refl, tt)
+  clock_or true (names x ∷ hs) = inl (refl, tt)
+  clock_or true (looked x ∷ hs) = inl (refl, tt)
+  clock_or true (ran x v ∷ hs) = inl (refl, tt)
+  clock_or true (changed x ∷ hs) = inl (refl, tt)
+  clock_or true (rolled x ∷ hs) = inl (refl, tt)
 
 -- what stands at the root is CHANGES, or asks for none
 module _ (e : Held) (hs : List Heard) where
@@ -314,23 +352,23 @@ module _ (e : Held) (hs : List Heard) where
     pub room : has_room e.setting ≡ true
 
   abbrev Or : Request → Form → Type 0
-  Or r f = (feeds_in r hs ≡ []) ⊎ Following f
+  Or r f = Silent (seen_of r hs) ⊎ Following f
 
   quiet_or : (r : Request) (f : Form) → Quiet r → Or r f
-  quiet_or r f q = inl (quiet_along r hs q)
+  quiet_or r f q = inl (quiet_silent r hs q)
 
   room_or : (fs : Forms) (ms : NamedForms) (x : Feeding) (b : Bool) → feeding e fs ms ≡ Ok x → e.setting.noreply ≡ false → has_room e.setting ≡ b
       → Or (if_room e b x) (operation op.Changes fs ms)
-  room_or fs ms x false found wanted room = inl refl
+  room_or fs ms x false found wanted room = inl (refl, tt)
   room_or fs ms x true found wanted room = inr (record { arguments = fs; options = ms; is = refl; feeds = x; found = found; wanted = wanted; room = room })
 
   wanted_or : (fs : Forms) (ms : NamedForms) (x : Feeding) (b : Bool) → feeding e fs ms ≡ Ok x → e.setting.noreply ≡ b
       → Or (if_wanted e b x) (operation op.Changes fs ms)
-  wanted_or fs ms x true found wanted = inl refl
+  wanted_or fs ms x true found wanted = inl (refl, tt)
   wanted_or fs ms x false found wanted = room_or fs ms x (has_room e.setting) found wanted refl
 
   found_or : (fs : Forms) (ms : NamedForms) (a : Answer Feeding) → feeding e fs ms ≡ a → Or (from a (if_wanted e e.setting.noreply)) (operation op.Changes fs ms)
-  found_or fs ms (Err why) found = inl refl
+  found_or fs ms (Err why) found = inl (refl, tt)
   found_or fs ms (Ok x) found = wanted_or fs ms x e.setting.noreply found refl
 
   feed_or : (o : Op) (fs : Forms) (ms : NamedForms) → task_of o ≡ task.Feed → Or (changes e fs ms ends) (operation o fs ms)
@@ -338,17 +376,17 @@ module _ (e : Held) (hs : List Heard) where
   feed_or o fs ms t = absurd (cc (t))
 
   task_or : (t : Task) (o : Op) (fs : Forms) (ms : NamedForms) → task_of o ≡ t → SoundBy t true fs (AreBelow fs) → Or (by_task e t o fs ms (branched e fs) ends) (operation o fs ms)
-  task_or task.Value o fs ms t is = quiet_or _ _ (keeps_shown Never e (operation o fs ms) ends (λ x. tt))
-  task_or task.Branch o fs ms t is = quiet_or _ _ (keeps_cond Never (any_command fs) (branched e fs) (shown e (operation o fs ms)) (keeps_branched Never e fs is) (keeps_shown Never e (operation o fs ms)) ends (λ x. tt))
-  task_or task.ForEach o fs ms t is = quiet_or _ _ (keeps_for_each Never e fs ends (λ x. tt))
-  task_or task.Write o fs ms t is = quiet_or _ _ (keeps_wrote Never e (operation o fs ms) ends (λ x. tt))
-  task_or task.Catalogue o fs ms t is = quiet_or _ _ (keeps_catalogue Never e o fs ms ends (λ x. tt))
-  task_or task.Index o fs ms t is = quiet_or _ _ (keeps_table Never e o fs ms ends (λ x. tt))
-  task_or task.Sync o fs ms t is = quiet_or _ _ (keeps_table Never e o fs ms ends (λ x. tt))
+  task_or task.Value o fs ms t is = quiet_or _ _ (keeps_shown Never ⊥ e (operation o fs ms) ends (λ x y. y))
+  task_or task.Branch o fs ms t is = quiet_or _ _ (gives_cond Never ⊥ (any_command fs) (branched e fs) (shown e (operation o fs ms)) (keeps_branched Never ⊥ e fs is) (keeps_shown Never ⊥ e (operation o fs ms)) ends (λ x y. y))
+  task_or task.ForEach o fs ms t is = quiet_or _ _ (keeps_for_each Never ⊥ e fs ends (λ x y. y))
+  task_or task.Write o fs ms t is = quiet_or _ _ (keeps_wrote Never ⊥ e (operation o fs ms) ends (λ x y. y))
+  task_or task.Catalogue o fs ms t is = quiet_or _ _ (keeps_catalogue Never ⊥ e o fs ms ends (λ x y. y))
+  task_or task.Index o fs ms t is = quiet_or _ _ (keeps_table Never ⊥ e o fs ms ends (λ x y. y))
+  task_or task.Sync o fs ms t is = quiet_or _ _ (keeps_table Never ⊥ e o fs ms ends (λ x y. y))
   task_or task.Feed o fs ms t is = feed_or o fs ms t
 
   shown_or : (f : Form) → Or (shown e f ends) f
-  shown_or f = quiet_or _ _ (keeps_shown Never e f ends (λ x. tt))
+  shown_or f = quiet_or _ _ (keeps_shown Never ⊥ e f ends (λ x y. y))
 
   carried_or : (f : Form) → Sound f → Or (carried e f ends) f
   carried_or (literal d) is = shown_or (literal d)
@@ -399,58 +437,58 @@ module _ (p : Plan) (s : Setting) (ns : Named) (hs : List Heard) where
             } in
             record { changes = c; asked = feeds_are_asked_in_turn p s (names ns ∷ hs) c; own = openings_are_theirs e w.arguments w.options w.feeds (subst Sound w.is is_sound) w.found }
 
-        seen_asks : feeds_in (read p s ns t.term ends) t.rest ≡ feeds_in (on_read x.read) x.replies
-        seen_asks = ap (feeds_in (read p s ns t.term ends)) x.heard ∙ looks_on feeds_in skips_feed ns on_read x.read x.replies nothing_read (read_slots t.term) x.seen x.sees
+        seen_asks : seen_of (read p s ns t.term ends) t.rest ≡ seen_of (on_read x.read) x.replies
+        seen_asks = ap (seen_of (read p s ns t.term ends)) x.heard ∙ looks_on seen_of skips_both ns on_read x.read x.replies nothing_read (read_slots t.term) x.seen x.sees
 
-        carried_all : (feeds_in (read p s ns t.term ends) t.rest ≡ []) ⊎ All
+        carried_all : Silent (seen_of (read p s ns t.term ends) t.rest) ⊎ All
         carried_all = elim (carried_or (held p s ns x.read) x.replies t.term is_sound) [
-          | inl none ↦ inl (seen_asks ∙ none)
+          | inl none ↦ inl (silent_as _ _ seen_asks none)
           | inr w ↦ inr (whole w)
         ]
 
-      read_all : (feeds_in (read p s ns t.term ends) t.rest ≡ []) ⊎ All
+      read_all : Silent (seen_of (read p s ns t.term ends) t.rest) ⊎ All
       read_all = elim (looks_or ns on_read nothing_read (read_slots t.term) t.rest) [
         | inl none ↦ inl none
         | inr x ↦ carried_all x
       ]
 
-      clocked_asks : feeds_in (at_moment p s ns f ends) hs ≡ feeds_in (read p s ns t.term ends) t.rest
-      clocked_asks = ap (feeds_in (at_moment p s ns f ends)) t.heard ∙ clocked_on feeds_in skips_feed p s ns f t.term t.rest (has_now f) t.moment t.clocked t.carried
+      clocked_asks : seen_of (at_moment p s ns f ends) hs ≡ seen_of (read p s ns t.term ends) t.rest
+      clocked_asks = ap (seen_of (at_moment p s ns f ends)) t.heard ∙ clocked_on seen_of skips_both p s ns f t.term t.rest (has_now f) t.moment t.clocked t.carried
 
-      timed_all : (feeds_in (at_moment p s ns f ends) hs ≡ []) ⊎ All
+      timed_all : Silent (seen_of (at_moment p s ns f ends) hs) ⊎ All
       timed_all = elim read_all [
-        | inl none ↦ inl (clocked_asks ∙ none)
+        | inl none ↦ inl (silent_as _ _ clocked_asks none)
         | inr x ↦ inr x
       ]
 
-    moment_all : (feeds_in (at_moment p s ns f ends) hs ≡ []) ⊎ All
+    moment_all : Silent (seen_of (at_moment p s ns f ends) hs) ⊎ All
     moment_all = elim (clock_or p s ns f (has_now f) hs) [
       | inl none ↦ inl none
       | inr t ↦ timed_all t
     ]
 
   module _ (asked : is_asked p.term ≡ true) (none : plan_fault p.term ≡ None) where
-    free_all : (f : Form) (b : Bool) → resolved ns p.db p.term ≡ Ok f → leaks false f ≡ b → (feeds_in (when_free feeds_in skips_feed p s ns f b) hs ≡ []) ⊎ All
-    free_all f true same free = inl refl
+    free_all : (f : Form) (b : Bool) → resolved ns p.db p.term ≡ Ok f → leaks false f ≡ b → Silent (seen_of (when_free p s ns f b) hs) ⊎ All
+    free_all f true same free = inl (refl, tt)
     free_all f false same free = moment_all f same free (resolved_sound ns p.db p.term f asked none same free)
 
-    answer_all : (a : Answer Form) → resolved ns p.db p.term ≡ a → (feeds_in (from a (λ f. when_free feeds_in skips_feed p s ns f (leaks false f))) hs ≡ []) ⊎ All
-    answer_all (Err why) same = inl refl
+    answer_all : (a : Answer Form) → resolved ns p.db p.term ≡ a → Silent (seen_of (from a (λ f. when_free p s ns f (leaks false f))) hs) ⊎ All
+    answer_all (Err why) same = inl (refl, tt)
     answer_all (Ok f) same = free_all f (leaks false f) same refl
 
 course_all : (p : Plan) (s : Setting) (hs : List Heard) → is_asked p.term ≡ true → plan_fault p.term ≡ None
-    → (feeds_in (request (course p s)) hs ≡ []) ⊎ AsksForItsOwn p s hs
+    → Silent (seen_of (request (course p s)) hs) ⊎ AsksForItsOwn p s hs
 course_all p s (names ns ∷ hs) asked none = answer_all p s ns hs asked none (resolved ns p.db p.term) refl
-course_all p s [] asked none = inl refl
-course_all p s (told x ∷ hs) asked none = inl refl
-course_all p s (looked x ∷ hs) asked none = inl refl
-course_all p s (ran x v ∷ hs) asked none = inl refl
-course_all p s (changed x ∷ hs) asked none = inl refl
-course_all p s (rolled x ∷ hs) asked none = inl refl
+course_all p s [] asked none = inl (refl, tt)
+course_all p s (told x ∷ hs) asked none = inl (refl, tt)
+course_all p s (looked x ∷ hs) asked none = inl (refl, tt)
+course_all p s (ran x v ∷ hs) asked none = inl (refl, tt)
+course_all p s (changed x ∷ hs) asked none = inl (refl, tt)
+course_all p s (rolled x ∷ hs) asked none = inl (refl, tt)
 
 pub no_other_feeds_are_asked : NoOtherFeedsAreAsked
 no_other_feeds_are_asked p s hs asked none = elim (course_all p s hs asked none) [
-  | inl h ↦ inl (asked_by_plan p s hs ∙ h)
+  | inl h ↦ inl (asked_by_plan p s hs ∙ h.0)
   | inr x ↦ inr x
 ]
 
@@ -501,7 +539,7 @@ module _ (e : Held) (q : Ask) (is : asks_feed q ≡ true) where
     opened_next k false h = more k h
 
     closing_next : (why : Reason) → next (closing e why before on) hs ≡ moves q → IsNext os hs
-    closing_next why h = absurd (quiet_next q is (closing e why before on) hs (keeps_closing Never e why before on) h)
+    closing_next why h = absurd (quiet_next q is (closing e why before on) hs (keeps_closing Never ⊥ e why before on) h)
 
     said_next : (stamp : ℕ) (s : Replied) → next (opened_by e before o stamp s on) hs ≡ moves q → IsNext os hs
     said_next stamp (said.Opened number items) h = opened_next (record { slot = o.slot; feed = number; stamp = stamp; opening = items }) (is_among o.slot number before) h
@@ -530,15 +568,15 @@ module _ (e : Held) (q : Ask) (is : asks_feed q ≡ true) where
     heard_next (changed r) h = absurd (cc (h))
     heard_next (rolled bytes) h = absurd (cc (h))
 
-  subscribed_next : (before : List Open) (os : List Opening) (on : List Open → Request) → ((ks : List Open) → Quiet (on ks)) → (hs : List Heard)
-      → next (subscribed e before os on) hs ≡ moves q → IsNext os hs
-  subscribed_next before [] on quiet hs h = absurd (quiet_next q is (on before) hs (quiet before) h)
-  subscribed_next before (o ∷ os) on quiet [] h = (o, refl, same_move (asked_for e o) q h)
-  subscribed_next before (o ∷ os) on quiet (x ∷ hs) h =
-      heard_next before o os hs (λ k. subscribed e (before ++ k ∷ []) os on) (λ k. subscribed_next (before ++ k ∷ []) os on quiet hs) x h
+  subscribed_next : (before : List Open) (os : List Opening) (out : List Open → Outcome) (hs : List Heard)
+      → next (subscribed e before os (λ ks. ends (out ks))) hs ≡ moves q → IsNext os hs
+  subscribed_next before [] out hs h = absurd (cc (h))
+  subscribed_next before (o ∷ os) out [] h = (o, refl, same_move (asked_for e o) q h)
+  subscribed_next before (o ∷ os) out (x ∷ hs) h =
+      heard_next before o os hs (λ k. subscribed e (before ++ k ∷ []) os (λ ks. ends (out ks))) (λ k. subscribed_next (before ++ k ∷ []) os out hs) x h
 
   opens_next : (f : Feeding) (hs : List Heard) → next (opens e f ends) hs ≡ moves q → IsNext f.openings hs
-  opens_next f hs h = subscribed_next [] f.openings _ (λ ks. tt) hs h
+  opens_next f hs h = subscribed_next [] f.openings (told_of e f) hs h
 
 -- whose term is at its place
 module _ (e : Held) (t : Told) where
@@ -573,4 +611,121 @@ each_is_of_its_term p s hs n order spec asked none h is =
     elim (no_other_feeds_are_asked p s hs asked none) [
       | inl empty ↦ absurd (asked_now (run n order) (ap opens_feed is) (request (course p s)) hs goes (sym (asked_by_plan p s hs) ∙ empty))
       | inr x ↦ of_its_term p s hs n order spec is goes x
+    ]
+
+-- ---- where it ends with a feed
+abbrev outcome_in : Next → Outcome
+outcome_in (answered o) = o
+outcome_in (moves q) = unsent
+
+more_after : (A : Type 0) (xs ys : List A) (x : A) → (xs ++ x ∷ []) ++ ys ≡ xs ++ (x ∷ ys)
+more_after A [] ys x = refl
+more_after A (z ∷ xs) ys x = ap (λ zs. z ∷ zs) (more_after A xs ys x)
+
+nothing_after : (A : Type 0) (xs : List A) → xs ++ [] ≡ xs
+nothing_after A [] = refl
+nothing_after A (x ∷ xs) = ap (λ zs. x ∷ zs) (nothing_after A xs)
+
+is_answered : (s : Setting) (n : Next) (arms : List Arm) (notes : List ℕ) (items : List Item) → sent s n ≡ answered (feed arms notes items) → n ≡ answered (feed arms notes items)
+is_answered s (moves q) arms notes items h = absurd (cc (h))
+is_answered s (answered o) arms notes items h = by_wish s.noreply h
+  where
+    by_wish : (b : Bool) → answered (cond b unsent o) ≡ answered (feed arms notes items) → answered o ≡ answered (feed arms notes items)
+    by_wish true e = absurd (cc (e))
+    by_wish false e = e
+
+module _ (e : Held) (out : List Open → Outcome) (arms : List Arm) (notes : List ℕ) (items : List Item) where
+  abbrev then_tell : List Open → Request
+  then_tell ks = ends (out ks)
+
+  abbrev Tells : Request → List Heard → Type 0
+  Tells r hs = next r hs ≡ answered (feed arms notes items)
+
+  pub record AllOpened (before : List Open) (os : List Opening) (hs : List Heard) : Type 0 where
+    pub opened : List Open
+    pub each : AreOpened os hs opened
+    pub all : reached (held_of before) os hs ≡ os
+    pub told : out (before ++ opened) ≡ feed arms notes items
+
+  none_told : (A : Type 0) (r : Request) (hs : List Heard) → Quiet r → Tells r hs → A
+  none_told A r hs a h = absurd (subst NoFeed h (quiet_end r hs a))
+
+  module _ (before : List Open) (o : Opening) (os : List Opening) (hs : List Heard) (more : (k : Open) → Tells (subscribed e (before ++ k ∷ []) os then_tell) hs → AllOpened (before ++ k ∷ []) os hs) where
+    abbrev on_open : Open → Request
+    on_open k = subscribed e (before ++ k ∷ []) os then_tell
+
+    opened_all : (place : ℕ) (k : Open) (b : Bool) → k.slot ≡ o.slot → is_among o.slot k.feed before ≡ b → Tells (cond b lost (give k) on_open) hs
+        → AllOpened before (o ∷ os) (ran (record { place = place; stamp = k.stamp; said = said.Opened k.feed k.opening }) saved.Yes ∷ hs)
+    opened_all place k true at new h = absurd (cc (h))
+    opened_all place k false at new h =
+        let x = more k h in
+        record {
+          opened = k ∷ x.opened;
+          each = ((place, refl, at), x.each);
+          all = ap (λ qs. o ∷ qs) (
+              ap (λ b. once_opened (cond b None (Some k.feed)) (λ n. reached (held_of before ++ (o.slot, n) ∷ []) os hs)) (sym (among_held o.slot k.feed before) ∙ new)
+              ∙ ap (λ n. reached (held_of before ++ (n, k.feed) ∷ []) os hs) (sym at)
+              ∙ ap (λ fs. reached fs os hs) (held_with before k)
+              ∙ x.all);
+          told = ap out (sym (more_after Open before x.opened k)) ∙ x.told;
+        }
+
+    closing_all : (x : Heard) (why : Reason) → Tells (closing e why before on_open) hs → AllOpened before (o ∷ os) (x ∷ hs)
+    closing_all x why h = none_told (AllOpened before (o ∷ os) (x ∷ hs)) (closing e why before on_open) hs (keeps_closing Never ⊥ e why before on_open) h
+
+    abbrev said_in : ℕ → ℕ → Replied → Heard
+    said_in place stamp x = ran (record { place = place; stamp = stamp; said = x }) saved.Yes
+
+    said_all : (place stamp : ℕ) (x : Replied) → Tells (opened_by e before o stamp x on_open) hs → AllOpened before (o ∷ os) (said_in place stamp x ∷ hs)
+    said_all place stamp (said.Opened number items) h = opened_all place (record { slot = o.slot; feed = number; stamp = stamp; opening = items }) (is_among o.slot number before) refl refl h
+    said_all place stamp said.IndexMissing h = closing_all (said_in place stamp said.IndexMissing) (no_index (name_or_empty o.spec.index)) h
+    said_all place stamp (said.FeedsFull count) h = closing_all (said_in place stamp (said.FeedsFull count)) too_many_feeds h
+    said_all place stamp (said.HistoryFull count) h = closing_all (said_in place stamp (said.HistoryFull count)) history_full h
+    said_all place stamp said.Gone h = closing_all (said_in place stamp said.Gone) (dropped e.names o.slot) h
+    said_all place stamp (said.Done x) h = absurd (cc (h))
+    said_all place stamp said.Changed h = absurd (cc (h))
+    said_all place stamp said.IndexExists h = absurd (cc (h))
+    said_all place stamp (said.Batch skipped last items) h = absurd (cc (h))
+    said_all place stamp said.Nothing h = absurd (cc (h))
+    said_all place stamp (said.FeedUnknown f) h = absurd (cc (h))
+    said_all place stamp said.Closed h = absurd (cc (h))
+
+    kept_all : (r : Reply) (v : Saved) → Tells (opened_if e before o r v on_open) hs → AllOpened before (o ∷ os) (ran r v ∷ hs)
+    kept_all r saved.Yes h = said_all r.place r.stamp r.said h
+    kept_all r saved.Failed h = absurd (cc (h))
+    kept_all r saved.Memory h = absurd (cc (h))
+
+    heard_all : (x : Heard) → Tells (open_heard e before o x on_open) hs → AllOpened before (o ∷ os) (x ∷ hs)
+    heard_all (names ns) h = absurd (cc (h))
+    heard_all (told m) h = absurd (cc (h))
+    heard_all (looked at) h = absurd (cc (h))
+    heard_all (ran r v) h = kept_all r v h
+    heard_all (changed r) h = absurd (cc (h))
+    heard_all (rolled bytes) h = absurd (cc (h))
+
+  subscribed_all : (before : List Open) (os : List Opening) (hs : List Heard) → Tells (subscribed e before os then_tell) hs → AllOpened before os hs
+  subscribed_all before [] hs h = record { opened = []; each = tt; all = refl; told = ap out (nothing_after Open before) ∙ ap outcome_in h }
+  subscribed_all before (o ∷ os) [] h = absurd (cc (h))
+  subscribed_all before (o ∷ os) (x ∷ hs) h = heard_all before o os hs (λ k. subscribed_all (before ++ k ∷ []) os hs) x h
+
+module _ (p : Plan) (s : Setting) (hs : List Heard) (arms : List Arm) (notes : List ℕ) (items : List Item) (goes : next (request (course p s)) hs ≡ answered (feed arms notes items)) where
+  with_its_own : AsksForItsOwn p s hs → EndsWithItsOwn p s hs (feed arms notes items)
+  with_its_own x =
+      let e : Held = held p s x.changes.known x.changes.read in
+      let a = subscribed_all e (told_of e x.changes.feeds) arms notes items [] x.changes.feeds.openings x.changes.replies (sym (comes_to_feeds next (λ q on h gs none. refl) p s hs x.changes) ∙ goes) in
+      record {
+        changes = x.changes;
+        own = x.own;
+        asked = x.asked ∙ ap (map (asked_for e)) a.all;
+        opened = a.opened;
+        each = a.each;
+        told = sym a.told;
+      }
+
+pub feeds_end_with_their_own : FeedsEndWithTheirOwn
+feeds_end_with_their_own p s hs arms notes items asked none h =
+    let goes = is_answered s (next (request (course p s)) hs) arms notes items h in
+    elim (course_all p s hs asked none) [
+      | inl x ↦ absurd (subst NoFeed goes x.1)
+      | inr x ↦ with_its_own p s hs arms notes items goes x
     ]

@@ -47,7 +47,7 @@ use Rattle.reql_plan_law.specs.Course.{Open, lost, names_heard, moment_by, momen
 use Rattle.reql_plan_law.specs.Feeding.{Feeding, feeding}
 use Rattle.reql_plan_law.specs.Follows.{IsRead, are_planned}
 use Rattle.reql_plan_law.specs.Held.{Held, Read, nothing_read}
-use Rattle.reql_plan_law.specs.Move.{Ask, run, roll, Replied, Heard, names, told, looked, ran, changed, rolled, Outcome, unsent, sequence}
+use Rattle.reql_plan_law.specs.Move.{Ask, run, roll, Replied, Heard, names, told, looked, ran, changed, rolled, Outcome, unsent, sequence, feed}
 use Rattle.reql_plan_law.specs.Opens.{is_asked, AskedFeedsAreRead}
 use Rattle.reql_plan_law.specs.Reads.{has_now, leaks, now_rule, read_slots, with_element}
 use Rattle.reql_plan_law.specs.Request.{Request, ends, asks, Moves, give, refuse, from, Next, answered, moves, next}
@@ -58,8 +58,8 @@ use Rattle.reql_plan_law.specs.Writes.{prepared, with_keys}
 use Rattle.reql_plan_law.proofs.Carried.{Sound, SoundAt, AreBelow, SoundBy, resolved_sound, sound_then}
 use Rattle.reql_plan_law.proofs.Opened.{feeds_are_read}
 
--- What is so of every feed that is asked for.
-module _ (P : ℕ → FeedSpec → Type 0) where
+-- What is so of every feed that is asked for, and wherever a request ends with a feed.
+module _ (P : ℕ → FeedSpec → Type 0) (R : Type 0) where
   -- a feed that is asked for on a slot is such a one
   abbrev pub IsFollowed : ℕ → Cmd → Type 0
   IsFollowed n (cmds.Subscribe spec) = P n spec
@@ -69,13 +69,21 @@ module _ (P : ℕ → FeedSpec → Type 0) where
   Follows (run n order) = IsFollowed n order.cmd
   Follows q = Unit {0}
 
+  abbrev pub EndsBy : Outcome → Type 0
+  EndsBy (feed arms notes items) = R
+  EndsBy o = Unit {0}
+
   -- at each move of a request, whatever it is answered
   abbrev pub Always : Request → Type 0
-  Always (ends o) = Unit {0}
+  Always (ends o) = EndsBy o
   Always (asks q on) = Follows q × ((h : Heard) → Always (on h))
 
   abbrev pub Keeps : {A : Type 0} → Moves A → Type 0
   Keeps {A} m = (on : A → Request) → ((a : A) → Always (on a)) → Always (m on)
+
+  -- and so of what gives an outcome
+  abbrev pub Gives : Moves Outcome → Type 0
+  Gives m = (on : Outcome → Request) → ((o : Outcome) → EndsBy o → Always (on o)) → Always (m on)
 
   keeps_from : {A : Type 0} (x : Answer A) → Keeps (from x)
   keeps_from (Ok a) on k = k a
@@ -86,9 +94,13 @@ module _ (P : ℕ → FeedSpec → Type 0) where
   from_ok (Ok a) on k = k a refl
   from_ok (Err e) on k = tt
 
-  pub keeps_cond : {A : Type 0} (b : Bool) (m n : Moves A) → Keeps m → Keeps n → Keeps (cond b m n)
+  keeps_cond : {A : Type 0} (b : Bool) (m n : Moves A) → Keeps m → Keeps n → Keeps (cond b m n)
   keeps_cond true m n km kn on k = km on k
   keeps_cond false m n km kn on k = kn on k
+
+  pub gives_cond : (b : Bool) (m n : Moves Outcome) → Gives m → Gives n → Gives (cond b m n)
+  gives_cond true m n km kn on k = km on k
+  gives_cond false m n km kn on k = kn on k
 
   -- ---- what is heard
   keeps_names : (h : Heard) → Keeps (names_heard h)
@@ -197,8 +209,8 @@ module _ (P : ℕ → FeedSpec → Type 0) where
   keeps_write : (e : Held) (f : Form) → Keeps (write e f)
   keeps_write e f on k = keeps_from (prepared e f) (λ p. run_write e p [] p.rolls on) (λ p. keeps_run_write e p [] p.rolls on k)
 
-  pub keeps_wrote : (e : Held) (f : Form) → Keeps (wrote e f)
-  keeps_wrote e f on k = keeps_write e f _ (λ s. k _)
+  pub keeps_wrote : (e : Held) (f : Form) → Gives (wrote e f)
+  keeps_wrote e f on k = keeps_write e f _ (λ s. k _ tt)
 
   keeps_round : (e : Held) (id : ℕ) (d : Plain) (total : Summary) (ws : List Form) → Keeps (round e id d total ws)
   keeps_round e id d total [] on k = k total
@@ -220,21 +232,21 @@ module _ (P : ℕ → FeedSpec → Type 0) where
   keeps_each (slot n) on k = tt
   keeps_each (operation o fs ms) on k = tt
 
-  pub keeps_for_each : (e : Held) (fs : Forms) → Keeps (for_each e fs)
+  pub keeps_for_each : (e : Held) (fs : Forms) → Gives (for_each e fs)
   keeps_for_each e fs on k = keeps_from (there (first fs)) _
       (λ f. keeps_from (sequence_of e.world f) _
       (λ ds. keeps_from (there (second fs)) _
       (λ g. keeps_each g _
-      (λ b. keeps_rounds e b.id b.writes nothing_done ds _ (λ s. k _)))))
+      (λ b. keeps_rounds e b.id b.writes nothing_done ds _ (λ s. k _ tt)))))
 
   -- ---- the catalogue and indexes
   keeps_shuts : (e : Held) (slots : List ℕ) → Keeps (shuts e slots)
   keeps_shuts e [] on k = k tt
   keeps_shuts e (n ∷ ns) on k = keeps_command e n cmds.Shut tt (λ s. shuts e ns on) (λ s. keeps_shuts e ns on k)
 
-  keeps_changed : (e : Held) (c : CatCmd) (s : CatSaid) → Keeps (changed_by e c s)
-  keeps_changed e c cat_said.Made on k = k _
-  keeps_changed e c (cat_said.Dropped slots) on k = keeps_shuts e slots _ (λ u. k _)
+  keeps_changed : (e : Held) (c : CatCmd) (s : CatSaid) → Gives (changed_by e c s)
+  keeps_changed e c cat_said.Made on k = k _ tt
+  keeps_changed e c (cat_said.Dropped slots) on k = keeps_shuts e slots _ (λ u. k _ tt)
   keeps_changed e c cat_said.DbExists on k = tt
   keeps_changed e c cat_said.DbMissing on k = tt
   keeps_changed e c cat_said.TableExists on k = tt
@@ -243,7 +255,7 @@ module _ (P : ℕ → FeedSpec → Type 0) where
   keeps_changed e c cat_said.BadName on k = tt
   keeps_changed e c (cat_said.HistoryFull count) on k = tt
 
-  keeps_change : (e : Held) (c : CatCmd) (h : Heard) → Keeps (change_heard e c h)
+  keeps_change : (e : Held) (c : CatCmd) (h : Heard) → Gives (change_heard e c h)
   keeps_change e c (names ns) on k = tt
   keeps_change e c (told m) on k = tt
   keeps_change e c (looked at) on k = tt
@@ -251,7 +263,7 @@ module _ (P : ℕ → FeedSpec → Type 0) where
   keeps_change e c (changed r) on k = keeps_changed e c r.said on k
   keeps_change e c (rolled bs) on k = tt
 
-  pub keeps_catalogue : (e : Held) (o : Op) (fs : Forms) (ms : NamedForms) → Keeps (change_catalogue e o fs ms)
+  pub keeps_catalogue : (e : Held) (o : Op) (fs : Forms) (ms : NamedForms) → Gives (change_catalogue e o fs ms)
   keeps_catalogue e o fs ms on k = keeps_from (cat_command e o fs ms) _ (λ c. (tt, λ h. keeps_change e c h on k))
 
   no_feed : (n : ℕ) (c : TableCmd) → IsFollowed n (cmd_of c)
@@ -260,10 +272,10 @@ module _ (P : ℕ → FeedSpec → Type 0) where
   no_feed n (tables.IndexRename old new overwrite) = tt
   no_feed n tables.Sync = tt
 
-  keeps_table_said : (c : Commanded) (s : Replied) → Keeps (table_said c s)
+  keeps_table_said : (c : Commanded) (s : Replied) → Gives (table_said c s)
   keeps_table_said c (said.Done x) on k = tt
   keeps_table_said c (said.HistoryFull count) on k = tt
-  keeps_table_said c said.Changed on k = k _
+  keeps_table_said c said.Changed on k = k _ tt
   keeps_table_said c said.IndexExists on k = tt
   keeps_table_said c said.IndexMissing on k = tt
   keeps_table_said c (said.Opened f items) on k = tt
@@ -274,7 +286,7 @@ module _ (P : ℕ → FeedSpec → Type 0) where
   keeps_table_said c said.Closed on k = tt
   keeps_table_said c said.Gone on k = tt
 
-  pub keeps_table : (e : Held) (o : Op) (fs : Forms) (ms : NamedForms) → Keeps (change_table e o fs ms)
+  pub keeps_table : (e : Held) (o : Op) (fs : Forms) (ms : NamedForms) → Gives (change_table e o fs ms)
   keeps_table e o fs ms on k = keeps_from (table_command e o fs ms) _
       (λ c. keeps_command e c.slot (cmd_of c.cmd) (no_feed c.slot c.cmd) (λ s. table_said c s on) (λ s. keeps_table_said c s on k))
 
@@ -317,23 +329,23 @@ module _ (P : ℕ → FeedSpec → Type 0) where
   keeps_subscribed e before (o ∷ os) all on k =
       (all.0, λ h. keeps_heard e before o h (λ x. subscribed e (before ++ x ∷ []) os on) (λ x. keeps_subscribed e (before ++ x ∷ []) os all.1 on k))
 
-  keeps_opens : (e : Held) (f : Feeding) → AllByRecursion (λ o. P o.slot o.spec) f.openings → Keeps (opens e f)
-  keeps_opens e f all on k = keeps_subscribed e [] f.openings all _ (λ os. k _)
+  keeps_opens : (e : Held) (f : Feeding) → R → AllByRecursion (λ o. P o.slot o.spec) f.openings → Gives (opens e f)
+  keeps_opens e f r all on k = keeps_subscribed e [] f.openings all _ (λ os. k _ r)
 
   -- ---- values, and what stands below the root: there no feed is asked for
-  keeps_shown_as : (e : Held) (s : Shown) → Keeps (shown_as e s)
-  keeps_shown_as e (values.atom d) on k = k _
-  keeps_shown_as e (values.groups gs) on k = k _
-  keeps_shown_as e (values.sequence ds) on k = keeps_cond (fits_in e ds) (give (sequence ds)) (refuse too_many_cursors) (λ q j. j (sequence ds))
+  keeps_shown_as : (e : Held) (s : Shown) → Gives (shown_as e s)
+  keeps_shown_as e (values.atom d) on k = k _ tt
+  keeps_shown_as e (values.groups gs) on k = k _ tt
+  keeps_shown_as e (values.sequence ds) on k = gives_cond (fits_in e ds) (give (sequence ds)) (refuse too_many_cursors) (λ q j. j (sequence ds) tt)
       (λ q j. tt) on k
 
-  pub keeps_shown : (e : Held) (f : Form) → Keeps (shown e f)
+  pub keeps_shown : (e : Held) (f : Form) → Gives (shown e f)
   keeps_shown e f on k = keeps_from (meant_of e.world f) _ (λ m. keeps_from (values.shown e.world m) _ (λ s. keeps_shown_as e s on k))
 
   keeps_task : (e : Held) (t : Task) (o : Op) (fs : Forms) (ms : NamedForms) (arms : Moves Outcome) → SoundBy t false fs (AreBelow fs)
-      → (AreBelow fs → Keeps arms) → Keeps (by_task e t o fs ms arms)
+      → (AreBelow fs → Gives arms) → Gives (by_task e t o fs ms arms)
   keeps_task e task.Value o fs ms arms s ka on k = keeps_shown e (operation o fs ms) on k
-  keeps_task e task.Branch o fs ms arms s ka on k = keeps_cond (any_command fs) arms (shown e (operation o fs ms)) (ka s)
+  keeps_task e task.Branch o fs ms arms s ka on k = gives_cond (any_command fs) arms (shown e (operation o fs ms)) (ka s)
       (keeps_shown e (operation o fs ms)) on k
   keeps_task e task.ForEach o fs ms arms s ka on k = keeps_for_each e fs on k
   keeps_task e task.Write o fs ms arms s ka on k = keeps_wrote e (operation o fs ms) on k
@@ -343,7 +355,7 @@ module _ (P : ℕ → FeedSpec → Type 0) where
   keeps_task e task.Feed o fs ms arms s ka on k = absurd s
 
   mutual
-    keeps_below : (e : Held) (f : Form) → SoundAt false f → Keeps (carried e f)
+    keeps_below : (e : Held) (f : Form) → SoundAt false f → Gives (carried e f)
     keeps_below e (literal d) s on k = keeps_shown e (literal d) on k
     keeps_below e (several fs) s on k = keeps_shown e (several fs) on k
     keeps_below e (keyed ms) s on k = keeps_shown e (keyed ms) on k
@@ -353,11 +365,11 @@ module _ (P : ℕ → FeedSpec → Type 0) where
     keeps_below e (slot n) s on k = keeps_shown e (slot n) on k
     keeps_below e (operation o fs ms) s on k = keeps_task e (task_of o) o fs ms (branched e fs) s (λ arms. keeps_branched e fs arms) on k
 
-    pub keeps_branched : (e : Held) (fs : Forms) → AreBelow fs → Keeps (branched e fs)
+    pub keeps_branched : (e : Held) (fs : Forms) → AreBelow fs → Gives (branched e fs)
     keeps_branched e no_forms s on k = tt
     keeps_branched e (form f no_forms) s on k = keeps_below e f s.0 on k
     keeps_branched e (form f (form g fs)) s on k = keeps_from (datum_of e.world f) (λ d. cond (truth d) (carried e g) (branched e fs) on)
-        (λ d. keeps_cond (truth d) (carried e g) (branched e fs) (keeps_below e g s.1.0) (keeps_branched e fs s.1.1) on k)
+        (λ d. gives_cond (truth d) (carried e g) (branched e fs) (keeps_below e g s.1.0) (keeps_branched e fs s.1.1) on k)
 
   leak_by : (b : Bool) (f : Form) (on : Form → Request) → (b ≡ false → Always (on f)) → Always (cond b (refuse undetermined) (give f) on)
   leak_by true f on k = tt
@@ -378,18 +390,18 @@ module _ (P : ℕ → FeedSpec → Type 0) where
   asks_followed s (asks x on) (y ∷ hs) q a h = asks_followed s (on y) hs q (a.1 y) h
 
   -- What holds of every opening of CHANGES with planned arguments, where these names are known, holds of every feed that a plan asks for.
-  module _ (known : Named)
+  module _ (known : Named) (r : R)
       (all : (e : Held) (fs : Forms) (ms : NamedForms) (x : Feeding) → e.names ≡ known → are_planned fs ≡ true → feeding e fs ms ≡ Ok x → AllByRecursion (λ o. P o.slot o.spec) x.openings) where
-    keeps_changes : (e : Held) (fs : Forms) (ms : NamedForms) → e.names ≡ known → are_planned fs ≡ true → Keeps (changes e fs ms)
+    keeps_changes : (e : Held) (fs : Forms) (ms : NamedForms) → e.names ≡ known → are_planned fs ≡ true → Gives (changes e fs ms)
     keeps_changes e fs ms own planned on k = from_ok (feeding e fs ms) _
-        (λ f same. keeps_cond e.setting.noreply (give unsent) (cond (has_room e.setting) (opens e f) (refuse too_many_cursors)) (λ q j. j unsent)
-        (keeps_cond (has_room e.setting) (opens e f) (refuse too_many_cursors) (keeps_opens e f (all e fs ms f own planned same)) (λ q j. tt)) on
+        (λ f same. gives_cond e.setting.noreply (give unsent) (cond (has_room e.setting) (opens e f) (refuse too_many_cursors)) (λ q j. j unsent tt)
+        (gives_cond (has_room e.setting) (opens e f) (refuse too_many_cursors) (keeps_opens e f r (all e fs ms f own planned same)) (λ q j. tt)) on
         k)
 
     keeps_root : (e : Held) (t : Task) (o : Op) (fs : Forms) (ms : NamedForms) → e.names ≡ known → SoundBy t true fs (AreBelow fs)
-        → Keeps (by_task e t o fs ms (branched e fs))
+        → Gives (by_task e t o fs ms (branched e fs))
     keeps_root e task.Value o fs ms own s on k = keeps_shown e (operation o fs ms) on k
-    keeps_root e task.Branch o fs ms own s on k = keeps_cond (any_command fs) (branched e fs) (shown e (operation o fs ms)) (keeps_branched e fs s)
+    keeps_root e task.Branch o fs ms own s on k = gives_cond (any_command fs) (branched e fs) (shown e (operation o fs ms)) (keeps_branched e fs s)
         (keeps_shown e (operation o fs ms)) on k
     keeps_root e task.ForEach o fs ms own s on k = keeps_for_each e fs on k
     keeps_root e task.Write o fs ms own s on k = keeps_wrote e (operation o fs ms) on k
@@ -398,7 +410,7 @@ module _ (P : ℕ → FeedSpec → Type 0) where
     keeps_root e task.Sync o fs ms own s on k = keeps_table e o fs ms on k
     keeps_root e task.Feed o fs ms own s on k = keeps_changes e fs ms own s on k
 
-    keeps_carried : (e : Held) (f : Form) → e.names ≡ known → Sound f → Keeps (carried e f)
+    keeps_carried : (e : Held) (f : Form) → e.names ≡ known → Sound f → Gives (carried e f)
     keeps_carried e (literal d) own s on k = keeps_shown e (literal d) on k
     keeps_carried e (several fs) own s on k = keeps_shown e (several fs) on k
     keeps_carried e (keyed ms) own s on k = keeps_shown e (keyed ms) on k
@@ -409,28 +421,28 @@ module _ (P : ℕ → FeedSpec → Type 0) where
     keeps_carried e (operation o fs ms) own s on k = keeps_root e (task_of o) o fs ms own s on k
 
     -- ---- the whole
-    keeps_read : (p : Plan) (s : Setting) (f : Form) → Sound f → Keeps (read p s known f)
+    keeps_read : (p : Plan) (s : Setting) (f : Form) → Sound f → Gives (read p s known f)
     keeps_read p s f is on k = keeps_looks known nothing_read (read_slots f) (λ r. carried (held p s known r) f on)
         (λ r. keeps_carried (held p s known r) f refl is on k)
 
-    keeps_timed : (p : Plan) (s : Setting) (f : Form) → Sound f → Keeps (timed p s known f)
+    keeps_timed : (p : Plan) (s : Setting) (f : Form) → Sound f → Gives (timed p s known f)
     keeps_timed p s f is on k = (
       tt,
       λ h. keeps_moment h _ (λ n. from_ok (rewritten (now_rule n) f) _
           (λ g same. keeps_read p s g (sound_then n true f g is same) on k)),
     )
 
-    keeps_at_moment : (p : Plan) (s : Setting) (f : Form) → Sound f → Keeps (at_moment p s known f)
-    keeps_at_moment p s f is on k = keeps_cond (has_now f) (timed p s known f) (read p s known f) (keeps_timed p s f is) (keeps_read p s f is) on k
+    keeps_at_moment : (p : Plan) (s : Setting) (f : Form) → Sound f → Gives (at_moment p s known f)
+    keeps_at_moment p s f is on k = gives_cond (has_now f) (timed p s known f) (read p s known f) (keeps_timed p s f is) (keeps_read p s f is) on k
 
-    keeps_resolving : (p : Plan) (s : Setting) → is_asked p.term ≡ true → plan_fault p.term ≡ None → Keeps (resolving p s known)
+    keeps_resolving : (p : Plan) (s : Setting) → is_asked p.term ≡ true → plan_fault p.term ≡ None → Gives (resolving p s known)
     keeps_resolving p s asked none on k = from_ok (resolved known p.db p.term) _
         (λ f same. leak_by (leaks false f) f _ (λ free. keeps_at_moment p s f (resolved_sound known p.db p.term f asked none same free) on k))
 
     pub always_asked : (p : Plan) (s : Setting) (hs : List Heard) (n : ℕ) (order : Order) (spec : FeedSpec) → is_asked p.term ≡ true → plan_fault p.term ≡ None
         → plan_next p s (names known ∷ hs) ≡ moves (run n order) → order.cmd ≡ cmds.Subscribe spec → P n spec
     always_asked p s hs n order spec asked none h is =
-        subst (IsFollowed n) is (asks_followed s (resolving p s known ends) hs (run n order) (keeps_resolving p s asked none ends (λ o. tt)) h)
+        subst (IsFollowed n) is (asks_followed s (resolving p s known ends) hs (run n order) (keeps_resolving p s asked none ends (λ o x. x)) h)
 
 -- before it heard the names, or where it heard what is none, a plan asks no slot
 abbrev asks_slot : Next → Bool
@@ -442,7 +454,7 @@ no_slot q n order none h = true≢false (sym (ap asks_slot h) ∙ none)
 
 pub asked_feeds_are_read : AskedFeedsAreRead
 asked_feeds_are_read p s (names ns ∷ hs) n order spec asked none h is =
-    always_asked (λ n spec. IsRead spec) ns (λ e fs ms x own planned opens. feeds_are_read e fs ms x planned opens) p s hs n order spec asked none h is
+    always_asked (λ n spec. IsRead spec) (Unit {0}) ns tt (λ e fs ms x own planned opens. feeds_are_read e fs ms x planned opens) p s hs n order spec asked none h is
 asked_feeds_are_read p s [] n order spec asked none h is = absurd (no_slot (plan_next p s []) n order refl h)
 asked_feeds_are_read p s (told m ∷ hs) n order spec asked none h is = absurd (no_slot (plan_next p s (told m ∷ hs)) n order refl h)
 asked_feeds_are_read p s (looked at ∷ hs) n order spec asked none h is = absurd (no_slot (plan_next p s (looked at ∷ hs)) n order refl h)

@@ -366,4 +366,4 @@ of_their_tables known e fs ms x own planned opens =
     subst (λ ns. AllByRecursion (OfItsTable ns) x.openings) own (all_own e x.told (terms_of fs) x.openings (openings_are_theirs e fs ms x planned opens).openings)
 
 pub asked_openings_are_theirs : AskedOpeningsAreTheirs
-asked_openings_are_theirs p s known hs n order spec asked none h is = always_asked (IsOfItsTable known) known (of_their_tables known) p s hs n order spec asked none h is
+asked_openings_are_theirs p s known hs n order spec asked none h is = always_asked (IsOfItsTable known) (Unit {0}) known tt (of_their_tables known) p s hs n order spec asked none h is

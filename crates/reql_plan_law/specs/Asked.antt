@@ -17,11 +17,11 @@ use Rattle.reql_law.specs.declared.reply.Saved.TheVariants as saved
 use Rattle.reql_plan_law.specs.declared.parts.Opening.{Opening}
 use Rattle.reql_plan_law.specs.declared.parts.Plan.{Plan}
 use Rattle.reql_plan_law.specs.declared.parts.Setting.{Setting}
-use Rattle.reql_plan_law.specs.Course.{order_of, has_room, held, plan_next}
+use Rattle.reql_plan_law.specs.Course.{order_of, Open, first_items, notes_of, arm_of, has_room, held, plan_next}
 use Rattle.reql_plan_law.specs.Feeding.{Feeding, feeding}
 use Rattle.reql_plan_law.specs.Held.{Held, Read, nothing_read, with_view}
 use Rattle.reql_plan_law.specs.Minds.{Feeds, has_feed}
-use Rattle.reql_plan_law.specs.Move.{Ask, run, Replied, Heard, names, told, looked, ran}
+use Rattle.reql_plan_law.specs.Move.{Ask, run, Replied, Heard, names, told, looked, ran, Arm, Item, Outcome, feed}
 use Rattle.reql_plan_law.specs.Opens.{is_asked, at_time}
 use Rattle.reql_plan_law.specs.Reads.{has_now, leaks, read_slots}
 use Rattle.reql_plan_law.specs.Request.{Next, answered, moves}
@@ -74,7 +74,8 @@ pub record Changing (p : Plan) (s : Setting) (hs : List Heard) : Type 0 where
   pub seen : List Seen
   pub replies : List Heard
   pub heard : hs ≡ names known ∷ (clock moment ++ (map looked seen ++ replies))
-  -- its term with its names looked up, and the CHANGES that it is with the moment in the place of NOW
+  -- its term with its names looked up, in which no function that may name no table does so, and the CHANGES that it is with the moment in the
+  -- place of NOW
   pub term : Form
   pub arguments : Forms
   pub options : NamedForms
@@ -150,3 +151,24 @@ pub record IsOfItsTerm (p : Plan) (s : Setting) (hs : List Heard) (n : ℕ) (ord
 abbrev pub EachIsOfItsTerm : Type 0
 EachIsOfItsTerm = (p : Plan) (s : Setting) (hs : List Heard) (n : ℕ) (order : Order) (spec : FeedSpec) → is_asked p.term ≡ true → plan_fault p.term ≡ None
     → plan_next p s hs ≡ moves (run n order) → order.cmd ≡ cmds.Subscribe spec → IsOfItsTerm p s hs n order spec
+
+-- And where a plan ends with a feed, all feeds of its CHANGES are asked for and open, and it tells of just these, in their order.
+abbrev pub IsOpened : Opening → Heard → Open → Type 0
+IsOpened o h k = (place : ℕ) × (h ≡ ran (record { place = place; stamp = k.stamp; said = said.Opened k.feed k.opening }) saved.Yes) × (k.slot ≡ o.slot)
+
+abbrev pub AreOpened : List Opening → List Heard → List Open → Type 0
+AreOpened [] hs [] = Unit {0}
+AreOpened (o ∷ os) (h ∷ hs) (k ∷ ks) = IsOpened o h k × AreOpened os hs ks
+AreOpened os hs ks = ⊥
+
+pub record EndsWithItsOwn (p : Plan) (s : Setting) (hs : List Heard) (outcome : Outcome) : Type 0 where
+  pub changes : Changing p s hs
+  pub own : AreOf (held p s changes.known changes.read) changes.arguments changes.options changes.feeds
+  pub asked : feeds_asked p s hs ≡ map (asked_for (held p s changes.known changes.read)) changes.feeds.openings
+  pub opened : List Open
+  pub each : AreOpened changes.feeds.openings changes.replies opened
+  pub told : outcome ≡ feed (map (arm_of (held p s changes.known changes.read)) opened) (notes_of changes.feeds) (first_items changes.feeds.told opened)
+
+abbrev pub FeedsEndWithTheirOwn : Type 0
+FeedsEndWithTheirOwn = (p : Plan) (s : Setting) (hs : List Heard) (arms : List Arm) (notes : List ℕ) (items : List Item) → is_asked p.term ≡ true → plan_fault p.term ≡ None
+    → plan_next p s hs ≡ answered (feed arms notes items) → EndsWithItsOwn p s hs (feed arms notes items)

@@ -1,5 +1,5 @@
 // Laws of plans.
-ghost use Rattle.reql_plan_law.specs.Asked.{EachIsOfItsTerm, FeedsAreAskedInTurn, NoOtherFeedsAreAsked};
+ghost use Rattle.reql_plan_law.specs.Asked.{EachIsOfItsTerm, FeedsAreAskedInTurn, FeedsEndWithTheirOwn, NoOtherFeedsAreAsked};
 ghost use Rattle.reql_plan_law.specs.Follows.{FeedsAreRead, LimitsAreRead, PointsAreRead, RangesAreRead};
 ghost use Rattle.reql_plan_law.specs.Minds.{PlansMind, PlansMindEachStep, UnsentOnlyWithNoreply};
 ghost use Rattle.reql_plan_law.specs.Opens.{AskedFeedsAreRead, PlannedFeedsAreRead};
@@ -59,11 +59,13 @@ pub fn openings_are_theirs()
 /// reads, it asks for the feeds of CHANGES in their order: the first one, and each next one as its answer once the one before
 /// it is open; none after one that is refused. Each is asked of its slot with all that its opening says and the points of
 /// these snapshots. A plan asks for no other feed, whatever its moves are answered: it asks for none at all, or is such a
-/// request, and each of its feeds is its own term's, where that has no fault and stands as every term that is read.
+/// request, and each of its feeds is its own term's, where that has no fault and stands as every term that is read. Where it
+/// ends with a feed, all feeds of its CHANGES were asked for and are open, and its arms are these, in their order.
 pub fn feeds_are_asked_in_turn()
     ensures feeds { FeedsAreAskedInTurn }
     ensures others { NoOtherFeedsAreAsked }
     ensures each { EachIsOfItsTerm }
+    ensures ends { FeedsEndWithTheirOwn }
 {}
 
 /// What is kept of a feed's term, with the data of its arguments in their places, means what the term does, in every world in

@@ -1,4 +1,4 @@
-use Rattle.reql_plan_law.proofs.Asked.{feeds_are_asked_in_turn, no_other_feeds_are_asked, each_is_of_its_term}
+use Rattle.reql_plan_law.proofs.Asked.{feeds_are_asked_in_turn, no_other_feeds_are_asked, each_is_of_its_term, feeds_end_with_their_own}
 use Rattle.reql_plan_law.proofs.laws.feeds_are_asked_in_turn.Goals as goal
 
 pub returns-clause-feeds : goal.returns-clause-feeds
@@ -9,3 +9,6 @@ returns-clause-others c = no_other_feeds_are_asked
 
 pub returns-clause-each : goal.returns-clause-each
 returns-clause-each c = each_is_of_its_term
+
+pub returns-clause-ends : goal.returns-clause-ends
+returns-clause-ends c = feeds_end_with_their_own
