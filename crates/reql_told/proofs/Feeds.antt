@@ -23,10 +23,11 @@ use Rattle.reql_plan_law.specs.Course.{plan_next}
 use Rattle.reql_plan_law.specs.Move as plans
 use Rattle.reql_plan_law.specs.Opens.{is_asked}
 use Rattle.reql_plan_law.specs.Request as requests
+use Rattle.reql_plan_law.proofs.Asked.{each_is_of_its_term}
 use Rattle.reql_plan_law.proofs.Opens.{asked_feeds_are_read}
 use Rattle.reql_story.specs.Requests.{Start, RunSlot}
 use Rattle.reql_told.specs.Asking.{plan_of, planned, refused, asked_by, asked}
-use Rattle.reql_told.specs.Laws.{AllFeedsAreRead}
+use Rattle.reql_told.specs.Laws.{AllFeedsAreRead, AllFeedsAreTheirs}
 use Rattle.reql_told.specs.Told.{heard_of, asked_of, move_of, setting_of}
 use Rattle.reql_told.proofs.Once.{given, inside, bound, chained, Rises, AllRise, json_rises, asked_of_data}
 
@@ -185,4 +186,11 @@ all_feeds_are_read key limits body noreply plan quiet count found n order spec i
     let good = of_body noreply plan body is in
     let hs : List plans.Heard = map heard_of found in
     asked_feeds_are_read plan (setting_of limits quiet count) hs n order spec good.0 good.1
+    (of_move (plan_next plan (setting_of limits quiet count) hs) n order asks) opens
+
+pub all_feeds_are_theirs : AllFeedsAreTheirs
+all_feeds_are_theirs key limits body noreply plan quiet count found n order spec is asks opens =
+    let good = of_body noreply plan body is in
+    let hs : List plans.Heard = map heard_of found in
+    each_is_of_its_term plan (setting_of limits quiet count) hs n order spec good.0 good.1
     (of_move (plan_next plan (setting_of limits quiet count) hs) n order asks) opens

@@ -1,5 +1,5 @@
 -- What is so of sessions that are told of these plans, whatever their key and their limits.
-use Rattle.std.specs.Prelude.{◌≡◌, ℕ, List, Bool, min}
+use Rattle.std.specs.Prelude.{◌≡◌, ℕ, List, map, Bool, min}
 use Rattle.reql_admin.specs.Server.{server}
 use Rattle.reql_json.specs.Showing.{shown}
 use Rattle.reql_hall.specs.Shares.{IsKept}
@@ -8,6 +8,7 @@ use Rattle.reql_law.specs.declared.command.FeedSpec.{FeedSpec}
 use Rattle.reql_law.specs.declared.command.Order.{Order}
 use Rattle.reql_law.specs.declared.limits.Limits.{Limits}
 use Rattle.reql_plan_law.specs.declared.parts.Plan.{Plan}
+use Rattle.reql_plan_law.specs.Asked.{IsOfItsTerm}
 use Rattle.reql_plan_law.specs.Follows.{IsRead}
 use Rattle.reql_story.specs.Answering.{EachIsAnswered}
 use Rattle.reql_story.specs.Waiting.{NothingWasThere}
@@ -17,7 +18,7 @@ use Rattle.reql_story.specs.Laws as story
 use Rattle.reql_story.specs.Minding.{PlansMind}
 use Rattle.reql_story.specs.Requests.{Start, RunSlot, Found}
 use Rattle.reql_story.specs.Tasks.{Talk, batch_size}
-use Rattle.reql_told.specs.Told.{talk, comes_by}
+use Rattle.reql_told.specs.Told.{talk, comes_by, setting_of, heard_of}
 
 -- plans mind their feeds
 abbrev pub PlansAreTold : Type 0
@@ -31,6 +32,13 @@ FeedsAreRead k =
 
 abbrev pub AllFeedsAreRead : Type 0
 AllFeedsAreRead = (key : List ℕ) (limits : Limits) → FeedsAreRead (talk key limits)
+
+-- and is its own term's: of those that CHANGES follows, the first one that has no answer yet, asked of the table that it is on, to follow it as it is in
+-- the world of the snapshots that were found, by the options of CHANGES
+abbrev pub AllFeedsAreTheirs : Type 0
+AllFeedsAreTheirs = (key : List ℕ) (limits : Limits) (body : List ℕ) (noreply : Bool) (plan : Plan) (quiet : Bool) (count : ℕ) (found : List Found) (n : ℕ) (order : Order) (spec : FeedSpec)
+    → (talk key limits).asked body ≡ Start noreply plan → (talk key limits).next plan quiet count found ≡ RunSlot n order → order.cmd ≡ cmds.Subscribe spec
+    → IsOfItsTerm plan (setting_of limits quiet count) (map heard_of found) n order spec
 
 -- a session cuts a plan's answers by the batch that the plan counts by
 abbrev pub BatchesAgree : Type 0

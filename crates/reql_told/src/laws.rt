@@ -1,5 +1,5 @@
 // Laws of sessions that plan ReQL.
-ghost use Rattle.reql_told.specs.Laws.{PlansAreTold, BatchesAgree, InfoIsServers, AllInOrder, AllFramesHandled, AllWornLate, AllFirstFailed, AllAreAnswered, AllWaitForNothing, AllValidClose, AllKept, AllOneMore, AllLearning, AllNothingLeft, AllFeedsHold, AllSkipsAreSent, AllFeedsAreRead};
+ghost use Rattle.reql_told.specs.Laws.{PlansAreTold, BatchesAgree, InfoIsServers, AllInOrder, AllFramesHandled, AllWornLate, AllFirstFailed, AllAreAnswered, AllWaitForNothing, AllValidClose, AllKept, AllOneMore, AllLearning, AllNothingLeft, AllFeedsHold, AllSkipsAreSent, AllFeedsAreRead, AllFeedsAreTheirs};
 ghost use Rattle.reql_told.specs.Refusing.{FirstRefusal, ShapeRefusal};
 
 /// Plans, as a session is told of them, take from no feed, close only what they opened and is open still, and tell of
@@ -11,8 +11,11 @@ pub fn plans_are_told()
 
 /// Every feed that a session opens for a body that it was sent follows a document, a range or the first of an order,
 /// whatever the body is and whatever the moves of its plan are answered: none stays silent since its term could not be read.
+/// And it is its own term's: of those that CHANGES follows, the first one that has no answer yet. It is asked of the table
+/// that this term is on, to follow it with the data of its arguments in their places, by its shape and the options of CHANGES.
 pub fn feeds_are_read()
-    ensures { AllFeedsAreRead }
+    ensures read { AllFeedsAreRead }
+    ensures theirs { AllFeedsAreTheirs }
 {}
 
 /// A START is refused by the first of its refusals before anything is looked at: that its token has something open, the
