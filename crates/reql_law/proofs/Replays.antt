@@ -18,8 +18,9 @@ use Rattle.reql_table_machine.specs.declared.command.Reply.{Reply}
 use Rattle.reql_table_machine.specs.declared.command.Said.{Said}
 use Rattle.reql_table_machine.specs.declared.command.Said.TheVariants as said
 use Rattle.reql_table_machine.proofs.Reach as of_tables
+use Rattle.reql_table_machine.proofs.Shutting.{shut_where_dropped as dropped}
 use Rattle.reql_law.specs.Indexes.{Indexes, IndexCmd}
-use Rattle.reql_law.specs.Laws.{History, docs_at, RefusedStays, DocsAtStamp, StampCounts, LaterDocs, DocsStay, TablesStay, MakingStays}
+use Rattle.reql_law.specs.Laws.{History, docs_at, RefusedStays, DocsAtStamp, StampCounts, ShutWhereDropped, LaterDocs, DocsStay, TablesStay, MakingStays}
 use Rattle.reql_law.specs.Machine.{State, Seen, known_cmd, known_entry, machine, after, reply}
 use Rattle.reql_law.specs.Replies.{Answered}
 use Rattle.reql_law.specs.Table.{DocumentTable, Held, feeding}
@@ -64,6 +65,9 @@ docs_at_stamp s history = subst (λ (z : State). docs_at s history z.table.stamp
 
 pub stamp_counts : StampCounts
 stamp_counts s history = ap (λ (z : State). z.table.stamp) (replay_is s history) ∙ (of_tables.reach (feeding s.most) s.table (map known_entry history)).1
+
+pub shut_where_dropped : ShutWhereDropped
+shut_where_dropped s history = ap (λ (z : State). z.table.shut) (replay_is s history) ∙ dropped (feeding s.most) s.table (map known_entry history)
 
 pub later_docs : LaterDocs
 later_docs s history more n le =

@@ -1,5 +1,6 @@
 -- A user's acts on a table of documents are its acts on the machine of tables; so its feeds fold, and their Takes tell what was skipped.
 use Rattle.std.proofs.Common.{◌≡◌, ℕ, ◌+◌, Bool, true, false, cond, List, [], ◌∷◌, ◌++◌, length, map, refl, sym, ap, subst, ◌∙◌, arith, length-append}
+use Rattle.std.specs.List.{AllByRecursion}
 use Rattle.std.specs.Prelude.{◌==◌}
 use Rattle.std.proofs.lemmas.List.{map-append, length-map}
 use Rattle.reql_datum.specs.Plain.{Plain}
@@ -19,8 +20,9 @@ use Rattle.reql_table_machine.specs.declared.command.Cmd.{Cmd as Known}
 use Rattle.reql_table_machine.specs.declared.command.Order.{Order as Asked}
 use Rattle.reql_table_machine.proofs.Tables.{all_fed}
 use Rattle.reql_table_machine.proofs.Telling.{takes_tell_skips, takes_lie_in_order}
+use Rattle.reql_table_machine.proofs.Placing.{takes_are_placed}
 use Rattle.reql_law.specs.Indexes.{IndexCmd}
-use Rattle.reql_law.specs.Laws.{History, Done, AreGood, May, known_act, FeedsFold, OfAllOpened, TellSkips, TakesTellSkips, LieInOrder, TakesLieInOrder}
+use Rattle.reql_law.specs.Laws.{History, Done, AreGood, May, known_act, FeedsFold, OfAllOpened, TellSkips, TakesTellSkips, LieInOrder, TakesLieInOrder, TakesArePlaced}
 use Rattle.reql_law.specs.Machine.{State, Seen, known_order, known_entry, machine, reply, seen}
 use Rattle.reql_law.specs.Replies.{Answered}
 use Rattle.reql_law.specs.Table.{Held, feeding}
@@ -117,3 +119,8 @@ takes_tell = of_all_opened TellSkips (λ most. takes_tell_skips (feeding most))
 
 pub takes_lie : TakesLieInOrder
 takes_lie = of_all_opened LieInOrder (λ most. takes_lie_in_order (feeding most))
+
+pub takes_placed : TakesArePlaced
+takes_placed s before during later by acts w =
+    subst (λ z. AllByRecursion (telling.ActIsPlaced (feeding s.most) s.table z) (map known_act acts)) (sym (parts_known before during later))
+    (takes_are_placed (feeding s.most) s.table (map known_entry before) (map known_entry during) (map known_entry later) by (map known_act acts) (begun s before during by acts w))

@@ -1,6 +1,6 @@
 -- Laws of the table machine.
 use Rattle.std.specs.List.{AllByRecursion}
-use Rattle.std.specs.Prelude.{◌≡◌, ◌≤◌, ◌<◌, ◌^◌, ℕ, suc, ◌+◌, List, [], ◌∷◌, ◌++◌, length, map, take, true, false}
+use Rattle.std.specs.Prelude.{◌≡◌, ◌≤◌, ◌<◌, ◌^◌, ℕ, suc, ◌+◌, List, [], ◌∷◌, ◌++◌, length, map, take, Bool, true, false, ◌||◌}
 use Rattle.reql_datum.specs.Members.{AreRising}
 use Rattle.reql_datum.specs.Order.{order}
 use Rattle.reql_datum.specs.Plain.{Plain}
@@ -19,6 +19,7 @@ use Rattle.reql_shared.specs.declared.engine.Snap.{Snap}
 use Rattle.reql_shared.specs.declared.recorded.Recorded.{Recorded}
 use Rattle.reql_table_machine.specs.Feeding.{Folds}
 use Rattle.reql_table_machine.specs.Fed as fed
+use Rattle.reql_table_machine.specs.Laws.{drops_from}
 use Rattle.reql_table_machine.specs.Fed.{Taking}
 use Rattle.reql_table_machine.specs.Telling as telling
 use Rattle.reql_table_machine.specs.declared.command.Cmd.{Cmd as Known}
@@ -103,6 +104,14 @@ IndexesStay = (s : State) (history : History) → AreRising s.table.indexes → 
 abbrev pub MakingStays : Type 0
 MakingStays = (s : State) (history : History) → replay machine s history ≡ record s { table = (replay machine s history).table }
 
+-- a table is shut exactly where it was, or a command of its history dropped it: rules out a table that anything else shuts, one that a drop leaves open, and
+-- one that opens again
+abbrev pub drops : State → History → Bool
+drops s history = drops_from (feeding s.most) s.table (map known_entry history)
+
+abbrev pub ShutWhereDropped : Type 0
+ShutWhereDropped = (s : State) (history : History) → (replay machine s history).table.shut ≡ (s.table.shut || drops s history)
+
 -- ---- every kind of feed folds, over good documents
 abbrev pub KindsFold : Type 0
 KindsFold = (most : ℕ) → Folds (feeding most) AreGood May
@@ -145,3 +154,12 @@ LieInOrder most h items ts = AllByRecursion (λ (t : Taking Summary Plain). tell
 
 abbrev pub TakesLieInOrder : Type 0
 TakesLieInOrder = OfAllOpened LieInOrder
+
+-- ---- Each Take of a user along a history is answered as the table at its place says: with a batch, or that the feed is unknown, only where the history has
+-- room for one more entry, and else that it is full; and where there is nothing to give, Gone if the table is shut, and Nothing if it isn't. Whether something
+-- waits in a feed that the user has open, TakesTellSkips says. Rules out a feed that is told of a drop while its table is open, one that waits on a table that
+-- was dropped, and one that is refused for a full history while there is room.
+abbrev pub TakesArePlaced : Type 0
+TakesArePlaced = (s : State) (before during later : History) (by : ℕ) (acts : List Done)
+    → Woven machine (replay machine s before) by (length before) acts during
+    → AllByRecursion (telling.ActIsPlaced (feeding s.most) s.table (map known_entry (before ++ (during ++ later)))) (map known_act acts)

@@ -1,7 +1,7 @@
 // Laws of the table machine, each a clause of a function that does nothing.
 ghost use Rattle.reql_law.specs.Reading.{PointsAreRead, RangesAreRead, NamedRangesAreRead, LimitsAreRead, LimitsByKeyAreRead};
 ghost use Rattle.reql_law.specs.Terms.{PointsShowTheirTerms, RangesShowTheirTerms, LimitsShowTheirTerms};
-ghost use Rattle.reql_law.specs.Laws.{RefusedStays, RecordedFit, DocsAtStamp, StampCounts, LaterDocs, DocsStay, TablesStay, WritesLand, GoodStay, IndexesStay, MakingStays, KindsFold, FeedsFold, TakesTellSkips, TakesLieInOrder};
+ghost use Rattle.reql_law.specs.Laws.{RefusedStays, RecordedFit, DocsAtStamp, StampCounts, LaterDocs, DocsStay, TablesStay, WritesLand, GoodStay, IndexesStay, MakingStays, ShutWhereDropped, KindsFold, FeedsFold, TakesTellSkips, TakesLieInOrder, TakesArePlaced};
 
 /// A command that adds no entry leaves the table as it was, and one that does adds one to the place;
 /// places and stamps are numbers of a u64. The documents of a table are those after all changes of
@@ -40,6 +40,8 @@ pub fn feeds_of_histories_fold()
 pub fn takes_tell_skips()
     ensures told { TakesTellSkips }
     ensures laid { TakesLieInOrder }
+    ensures placed { TakesArePlaced }
+    ensures shut { ShutWhereDropped }
 {}
 
 /// Requests of feeds as they are planned are read for what they mean: GET of a key, a range shape by

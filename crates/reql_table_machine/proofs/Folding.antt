@@ -142,13 +142,13 @@ module _ {D J W N P M X K I F : Type 0} (m : Feeding D J W N P M X K I F) (by nu
   takes_from max = cmds.Take number max
 
   -- the answers that it can have
-  pub take_cases : (t : Table D J K I) (max : ℕ) (f : Feed K I) → find_feed by number t.feeds ≡ Some f → (G : Said M I → Type 0) → G (said.HistoryFull (2 ^ 64 - 1)) → G (said.Batch f.skipped f.last (given_by m max f)) →
+  pub take_cases : (t : Table D J K I) (max : ℕ) (f : Feed K I) → find_feed by number t.feeds ≡ Some f → (G : Said M I → Type 0) → (has_something f ≡ true → G (said.HistoryFull (2 ^ 64 - 1))) → (has_something f ≡ true → G (said.Batch f.skipped f.last (given_by m max f))) →
       (has_something f ≡ false → G said.Gone) → (has_something f ≡ false → G said.Nothing) → G (answer m t by (takes_from max))
   take_cases t max f e G full batch gone nothing =
       let u : Table D J K I = one_more m (effect m t by (takes_from max)) in
       subst (λ o. G (if_room m u (takes m t number max o))) (sym e)
       (split (has_something f) (λ b. G (if_room m u (cond b (said.Batch f.skipped f.last (given_by m max f)) (unless_shut m t said.Nothing))))
-      (λ _. split (is_past m u) (λ b. G (cond b (said.HistoryFull (2 ^ 64 - 1)) (said.Batch f.skipped f.last (given_by m max f)))) (λ _. full) (λ _. batch))
+      (λ h. split (is_past m u) (λ b. G (cond b (said.HistoryFull (2 ^ 64 - 1)) (said.Batch f.skipped f.last (given_by m max f)))) (λ _. full h) (λ _. batch h))
       (λ h. split t.shut (λ b. G (if_room m u (cond b said.Gone said.Nothing))) (λ _. gone h) (λ _. nothing h)))
 
   -- what one that is answered so leaves
@@ -243,7 +243,7 @@ module _ {D J W N P M X K I F : Type 0} (m : Feeding D J W N P M X K I F) (good 
         }
 
     outcome : Outcome at max t xs g (answer m t by (takes_it max))
-    outcome = take_cases m by number t max r.feed r.found (Outcome at max t xs g) (still (said.HistoryFull (2 ^ 64 - 1)) refl refl (never_full (2 ^ 64 - 1) (m.squashes k))) outcome_batch outcome_gone (λ _. still said.Nothing refl refl (never_nothing (m.squashes k)))
+    outcome = take_cases m by number t max r.feed r.found (Outcome at max t xs g) (λ _. still (said.HistoryFull (2 ^ 64 - 1)) refl refl (never_full (2 ^ 64 - 1) (m.squashes k))) (λ _. outcome_batch) outcome_gone (λ _. still said.Nothing refl refl (never_nothing (m.squashes k)))
 
   abbrev H : List (ℕ × I) → Feed K I → List X → Type 0
   H g = Holds m good may l k d n g
@@ -271,8 +271,8 @@ module _ {D J W N P M X K I F : Type 0} (m : Feeding D J W N P M X K I F) (good 
   passed : (at max : ℕ) (t : T) (xs : List X) → Tracked m good may l (above_of at) by number k d n xs t → Passed at max t xs (answer m t by (takes_it max))
   passed at max t xs r =
       let same : Tracked m good may l (above_of at) by number k d n (xs ++ []) t = subst (λ z. Tracked m good may l (above_of at) by number k d n z t) (sym (append-nil xs)) r in
-      take_cases m by number t max r.feed r.found (Passed at max t xs) (record { above = tt; next = same })
-      (record {
+      take_cases m by number t max r.feed r.found (Passed at max t xs) (λ _. record { above = tt; next = same })
+      (λ _. record {
         above = split (m.squashes r.feed.kept) (λ b. Above at (cond b (m.net r.feed.kept r.feed.queue) (take max r.feed.queue))) (λ _. l.above r.feed.kept at r.feed.queue r.holding.1) (λ _. all_take (λ (p : ℕ × I). at < p.0) max r.feed.queue r.holding.1);
         next = record {
           feed = left_by m max r.feed;

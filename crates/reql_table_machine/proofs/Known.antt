@@ -44,8 +44,8 @@ module _ {D J W N P M X K I F : Type 0} (m : Feeding D J W N P M X K I F) (good 
   both : (max : ℕ) (t : T) (xs : List X) → Is xs t → Both max t xs (answer m t by (cmds.Take number max))
   both max t xs r =
       let same : Is (xs ++ []) t = subst (λ z. Is z t) (sym (append-nil xs)) r in
-      take_cases m by number t max r.feed r.found (Both max t xs) (tt, same)
-      (tt, record { feed = left_by m max r.feed; found = find_taken (left_by m max) by number (λ f. refl) t.feeds r.feed r.found; kept = r.kept; docs = same.docs; stamp = same.stamp; first = r.first; comes = same.comes; holding = tt })
+      take_cases m by number t max r.feed r.found (Both max t xs) (λ _. (tt, same))
+      (λ _. (tt, record { feed = left_by m max r.feed; found = find_taken (left_by m max) by number (λ f. refl) t.feeds r.feed r.found; kept = r.kept; docs = same.docs; stamp = same.stamp; first = r.first; comes = same.comes; holding = tt }))
       (λ _. (tt, same)) (λ _. (tt, same))
 
   abbrev machine : Machine T (Order (Cmd W N P)) (Reply (Said M I)) (Unit {0}) (Look (D × J))

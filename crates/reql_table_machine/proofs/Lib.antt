@@ -9,3 +9,5 @@ pub mod Sampled
 pub mod Numbers
 pub mod Known
 pub mod Telling
+pub mod Placing
+pub mod Shutting

@@ -1,12 +1,12 @@
 -- The answers of a feed's Takes tell what its queue skipped.
-use Rattle.std.proofs.Common.{◌≡◌, ◌≢◌, ◌<◌, ◌≤◌, ℕ, suc, ◌+◌, ◌-◌, ◌^◌, max, false, cond, ◌&&◌, List, [], ◌∷◌, ◌++◌, length, take, drop, Option, Some, None, refl, sym, ap, subst, ◌∙◌, arith, append_assoc, append-nil, length-append, length-drop}
+use Rattle.std.proofs.Common.{◌≡◌, ◌≢◌, ◌<◌, ◌≤◌, ℕ, suc, ◌+◌, ◌-◌, ◌^◌, max, true, false, true≢false, not, cond, ◌&&◌, ◌||◌, List, [], ◌∷◌, ◌++◌, length, take, drop, Option, Some, None, refl, sym, ap, subst, ◌∙◌, arith, append_assoc, append-nil, length-append, length-drop}
 use Rattle.std.specs.List.{AllByRecursion}
 use Rattle.std.specs.Prelude.{nat_lt, nat_eq}
 use Rattle.std.proofs.Math.Seq.{take-append_seam, drop-append_seam}
 use Rattle.std.proofs.lemmas.List.{take-append-drop}
 use Rattle.std.proofs.lemmas.Bool.{eqb-true, eq-eqb, both_ways}
 use Rattle.reql_table_machine.specs.Feeding.{Feeding, changed, appended}
-use Rattle.reql_table_machine.specs.Feeds.{Feed, Table, push_all, find_feed, given_by, left_by, opened_in, opens, new_feed, one_more, unless_shut, adds, is_past, if_room, answer, after_cmd, reply_to_cmd, table_machine}
+use Rattle.reql_table_machine.specs.Feeds.{Feed, Table, push_all, find_feed, is_none_queued, has_something, given_by, left_by, opened_in, opens, new_feed, one_more, unless_shut, adds, is_past, if_room, answer, after_cmd, reply_to_cmd, table_machine}
 use Rattle.reql_table_machine.specs.Fed.{Taking, taking_by, is_end, takings, changes_at, changes_from, docs_at}
 use Rattle.reql_table_machine.specs.Skips.{last_stamp, Fits, names_feed}
 use Rattle.reql_table_machine.specs.Telling.{skips_of, IsCounted, Parts, Answers, AreTold, Gives, AreLaid, OpenedSaid, OpenedCmd, AllOpened, OfAllOpened, TakesTellSkips, TakesLieInOrder}
@@ -74,6 +74,14 @@ module _ {D J W N P M X K I F : Type 0} (m : Feeding D J W N P M X K I F) (k : K
   nothing_waits : (last : ℕ) (w : List (ℕ × I)) (f : Feed K I) → Waits last w f → f.queue ≡ [] → w ≡ []
   nothing_waits last w f h e = none_of w (omega (arith, long last w f h, h.drops.many, ap length e))
 
+  -- something waits where a Take finds something
+  something_waits : (last : ℕ) (w : List (ℕ × I)) (f : Feed K I) → Waits last w f → has_something f ≡ true → w ≢ []
+  something_waits last w f h s e =
+      let none : length h.drops.dropped + length f.queue ≡ 0 = omega (arith, long last w f h, ap length e) in
+      let queue : f.queue ≡ [] = none_of f.queue (omega (arith, none)) in
+      let skipped : f.skipped ≡ 0 = omega (arith, none, h.drops.skips) in
+      true≢false (sym s ∙ (λ i. not (nat_eq (skipped i) 0) || not (is_none_queued (queue i))))
+
   waits_none : (last : ℕ) (w : List (ℕ × I)) (f : Feed K I) → Waits last w f → f.queue ≡ [] → f.skipped ≡ 0 → Waits last [] f
   waits_none last w f h e z =
       let none : h.drops.dropped ≡ [] = none_of h.drops.dropped (omega (arith, long last w f h, h.drops.many, ap length e)) in
@@ -135,11 +143,11 @@ module _ {D J W N P M X K I F : Type 0} (m : Feeding D J W N P M X K I F) (ends 
 
   taken : (most : ℕ) (t : T) (last : ℕ) (w : List (ℕ × I)) (f : Feed K I) → find_feed by number t.feeds ≡ Some f → Waits m k last w f → Taken most t last w (answer m t by (cmds.Take number most))
   taken most t last w f e h = take_cases m by number t most f e (Taken most t last w)
-      (record { now = last; on = w; tells = (refl, refl); feed = f; found = e; waits = h })
-      (record {
+      (λ s. record { now = last; on = w; tells = (refl, refl, something_waits m k last w f h s); feed = f; found = e; waits = h })
+      (λ s. record {
         now = f.last;
         on = left_of m k most f;
-        tells = (batch_parts m k most last w f h, refl);
+        tells = (batch_parts m k most last w f h, refl, something_waits m k last w f h s);
         feed = left_by m most f;
         found = find_taken (left_by m most) by number (λ g. refl) t.feeds f e;
         waits = waits_left m k most last w f h;

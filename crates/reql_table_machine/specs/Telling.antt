@@ -1,5 +1,5 @@
 -- What the answers of a feed's Takes tell of what its queue skipped.
-use Rattle.std.specs.Prelude.{◌≡◌, ◌≤◌, ◌<◌, ℕ, ◌-◌, ◌^◌, min, max, List, [], ◌∷◌, ◌++◌, length, take, drop, cond, Option, Some}
+use Rattle.std.specs.Prelude.{◌≡◌, ◌≢◌, ◌≤◌, ◌<◌, ◌⊎◌, ℕ, ◌-◌, ◌^◌, min, max, List, [], ◌∷◌, ◌++◌, length, take, drop, true, false, cond, Option, Some}
 use Rattle.std.specs.List.{AllByRecursion}
 use Rattle.reql_shared.specs.declared.recorded.Recorded.{Recorded}
 use Rattle.reql_shared.specs.Acts.{Act, Ran, Looked, Denied}
@@ -41,12 +41,12 @@ module _ {D J W N P M X K I F : Type 0} (m : Feeding D J W N P M X K I F) where
     pub leaves : left ≡ cond (m.squashes k) [] (drop most queue)
 
   -- What an answer says of what waits, where the last item that went had the stamp `last`: the stamp of the last that has gone now, and what it leaves.
-  -- Where it gives no batch, nothing waits, or the history is full and all waits on.
+  -- A batch is given only where something waits, Nothing and Gone only where nothing does, and where the history is full something waits, and waits on.
   abbrev pub Answers : K → ℕ → ℕ → List (ℕ × I) → Said M I → ℕ → List (ℕ × I) → Type 0
-  Answers k most last waiting (said.Batch skipped told items) now left = Parts k most last waiting skipped told items left × (now ≡ told)
+  Answers k most last waiting (said.Batch skipped told items) now left = Parts k most last waiting skipped told items left × (now ≡ told) × (waiting ≢ [])
   Answers k most last waiting said.Nothing now left = (waiting ≡ []) × (left ≡ []) × (now ≡ last)
   Answers k most last waiting said.Gone now left = (waiting ≡ []) × (left ≡ []) × (now ≡ last)
-  Answers k most last waiting (said.HistoryFull count) now left = (left ≡ waiting) × (now ≡ last)
+  Answers k most last waiting (said.HistoryFull count) now left = (left ≡ waiting) × (now ≡ last) × (waiting ≢ [])
   Answers k most last waiting other now left = ⊥
 
   -- A feed's Takes in their order, from one after which the last that went had the stamp `last`, these were left, and these come later. What came up to the
@@ -102,3 +102,41 @@ module _ {D J W N P M X K I F : Type 0} (m : Feeding D J W N P M X K I F) where
   -- is told, or twice
   abbrev pub TakesLieInOrder : Type 0
   TakesLieInOrder = OfAllOpened (λ k items ts. AllByRecursion (λ (t : Taking M I). IsCounted t) ts → AreLaid k ts items)
+
+  -- ---- what a Take is answered at its place
+  -- whether the history of a table has room for one more entry
+  abbrev pub HasRoom : Table D J K I → Type 0
+  HasRoom t = (t.place < 2 ^ 64 - 1) × (t.stamp ≤ 2 ^ 64 - 1)
+
+  abbrev pub HasNone : Table D J K I → Type 0
+  HasNone t = (2 ^ 64 - 1 ≤ t.place) ⊎ (2 ^ 64 - 1 < t.stamp)
+
+  -- What a Take may be answered where this is the table: a batch, or that the feed is unknown, where the history has room for its entry, and else that it is
+  -- full; and where there is nothing to give, Gone if the table is shut, and Nothing if it isn't.
+  abbrev pub MaySay : Table D J K I → Said M I → Type 0
+  MaySay t (said.Batch skipped last items) = HasRoom t
+  MaySay t said.Nothing = t.shut ≡ false
+  MaySay t said.Gone = t.shut ≡ true
+  MaySay t (said.HistoryFull count) = HasNone t × (count ≡ 2 ^ 64 - 1)
+  MaySay t (said.FeedUnknown feed) = HasRoom t × (t.shut ≡ false)
+  MaySay t other = ⊥
+
+  -- a command at its place in a history from this table
+  abbrev pub IsPlaced : Table D J K I → List (Recorded (Order (Cmd W N P))) → ℕ → Cmd W N P → Reply (Said M I) → Type 0
+  IsPlaced t history place (cmds.Take feed most) reply = MaySay (replay (table_machine m) t (take place history)) reply.said
+  IsPlaced t history place other reply = Unit {0}
+
+  abbrev pub ActIsPlaced : Table D J K I → List (Recorded (Order (Cmd W N P))) → Act (Order (Cmd W N P)) (Reply (Said M I)) (Unit {0}) (Look (D × J)) → Type 0
+  ActIsPlaced t history (Ran place order reply) = IsPlaced t history place order.cmd reply
+  ActIsPlaced t history (Looked place question answer) = Unit {0}
+  ActIsPlaced t history (Denied place) = Unit {0}
+
+  -- Each Take of a user along a history is answered as the table at its place says. Of a feed that the user has open, TakesTellSkips says beside it whether
+  -- something waits; so Nothing is answered exactly where nothing waits and the table isn't shut, Gone exactly where nothing waits and it is, a batch exactly
+  -- where something waits and the history has room, and HistoryFull exactly where something waits and it has none. Rules out a feed that is told of a drop
+  -- while its table is open, one that waits on a table that was dropped, and one that is refused for a full history while there is room.
+  abbrev pub TakesArePlaced : Type 0
+  TakesArePlaced = (o : Table D J K I) (before during after : List (Recorded (Order (Cmd W N P)))) (by : ℕ)
+      (acts : List (Act (Order (Cmd W N P)) (Reply (Said M I)) (Unit {0}) (Look (D × J))))
+      → Woven (table_machine m) (replay (table_machine m) o before) by (length before) acts during
+      → AllByRecursion (λ (a : Act (Order (Cmd W N P)) (Reply (Said M I)) (Unit {0}) (Look (D × J))). ActIsPlaced o (before ++ (during ++ after)) a) acts

@@ -1,8 +1,8 @@
 // The laws of a table and its feeds, for any kinds of writes and feeds.
 ghost use Rattle.reql_table_machine.specs.Feeding.{Feeding, Folds};
-ghost use Rattle.reql_table_machine.specs.Laws.{RefusedStays, DocsAtStamp, LaterDocs, FeedsFold};
+ghost use Rattle.reql_table_machine.specs.Laws.{RefusedStays, DocsAtStamp, LaterDocs, ShutWhereDropped, FeedsFold};
 ghost use Rattle.reql_table_machine.specs.Skips.{OldestAreSkipped, SkipsCount, NothingIsSkipped, SkipsOfFullQueues, SkipsBetweenTakes};
-ghost use Rattle.reql_table_machine.specs.Telling.{TakesTellSkips, TakesLieInOrder};
+ghost use Rattle.reql_table_machine.specs.Telling.{TakesTellSkips, TakesLieInOrder, TakesArePlaced};
 ghost use Rattle.reql_table_machine.specs.Sample.{one_number, Good, May};
 
 /// What a table's writes and feeds mean.
@@ -61,11 +61,16 @@ pub fn skips_of_full_queues<F: Meaning>()
 /// The answers of a feed's Takes tell what its queue skipped. Of what waits at a Take, which is what
 /// the Take before left and what came since, the oldest that have no place are gone: just these the
 /// answer tells, before the items that it gives of those behind them. So all that came to a feed is
-/// told once, in its order: as one of so many skipped, or in a batch. A Take that gives no batch finds
-/// nothing waiting, or leaves all of it where the history is full.
+/// told once, in its order: as one of so many skipped, or in a batch. A Take of such a feed is answered
+/// Nothing exactly where nothing waits and the table isn't shut at its place, and Gone exactly where
+/// nothing waits and it is. Where something waits it is given, as long as the history has room for one
+/// more entry; else all of it waits on, and the answer is that the history is full. A table is shut
+/// exactly where it was or a command of its history dropped it.
 pub fn takes_tell_skips<F: Meaning>()
     ensures told { TakesTellSkips F.feeding }
     ensures laid { TakesLieInOrder F.feeding }
+    ensures placed { TakesArePlaced F.feeding }
+    ensures shut { ShutWhereDropped F.feeding }
 {}
 
 /// The laws of a kind of feed can be met: the feeds of a table of one number meet them.
