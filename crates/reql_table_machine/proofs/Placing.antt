@@ -4,7 +4,7 @@ use Rattle.std.specs.Prelude.{nat_lt}
 use Rattle.std.proofs.lemmas.List.{take-append-le}
 use Rattle.std.proofs.lemmas.Bool.{ltb-true, ltb-false}
 use Rattle.reql_table_machine.specs.Feeding.{Feeding}
-use Rattle.reql_table_machine.specs.Feeds.{Feed, Table, find_feed, has_something, given_by, unless_shut, takes, if_room, effect, one_more, answer, reply_to_cmd, table_machine}
+use Rattle.reql_table_machine.specs.Feeds.{Feed, Table, find_feed, has_something, given_by, unless_shut, takes, adds, if_room, effect, one_more, answer, reply_to_cmd, table_machine}
 use Rattle.reql_table_machine.specs.Telling.{HasRoom, MaySay, IsPlaced, ActIsPlaced, TakesArePlaced}
 use Rattle.reql_table_machine.specs.declared.command.Cmd.{Cmd}
 use Rattle.reql_table_machine.specs.declared.command.Cmd.TheVariants as cmds
@@ -18,6 +18,7 @@ use Rattle.reql_shared.specs.Machine.{Machine, replay}
 use Rattle.reql_shared.specs.Acts.{Act, Ran, Looked, Denied, place_of, IsAnswered, Stands}
 use Rattle.reql_shared.proofs.Standing.{woven_stands}
 use Rattle.reql_table_machine.proofs.Items.{all_map}
+use Rattle.reql_table_machine.proofs.Reach.{reach}
 use Rattle.reql_table_machine.proofs.Tracking.{split}
 
 -- one of two numbers is past the top, or neither is
@@ -55,6 +56,10 @@ module _ {D J W N P M X K I F : Type 0} (m : Feeding D J W N P M X K I F) where
       (λ _. full_or t (said.Batch f.skipped f.last (given_by m most f)) (λ r. r))
       (λ _. split t.shut (λ b. MaySay m t (if_room m (one_more m (effect m t by (cmds.Take feed most))) (cond b said.Gone said.Nothing))) (λ e. e) (λ e. e))
 
+  -- a Take makes no change
+  take_stamp : (t : T) (by feed most : ℕ) → (reply_to_cmd m t by (cmds.Take feed most)).stamp ≡ t.stamp
+  take_stamp t by feed most = split (adds m (answer m t by (cmds.Take feed most))) (λ b. (cond b (one_more m (effect m t by (cmds.Take feed most))) t).stamp ≡ t.stamp) (λ _. refl) (λ _. refl)
+
   placed_cmd : (o : T) (history : Entries) (place by : ℕ) (cmd : Cmd W N P) → IsPlaced m o history place cmd (reply_to_cmd m (replay machine o (take place history)) by cmd)
   placed_cmd o history place by (cmds.Write w) = tt
   placed_cmd o history place by (cmds.Index n) = tt
@@ -64,7 +69,7 @@ module _ {D J W N P M X K I F : Type 0} (m : Feeding D J W N P M X K I F) where
   placed_cmd o history place by cmds.Sync = tt
   placed_cmd o history place by (cmds.Take feed most) =
       let t : T = replay machine o (take place history) in
-      may_say t by feed most (find_feed by feed t.feeds)
+      record { stamp = omega (arith, take_stamp t by feed most, (reach m o (take place history)).1); says = may_say t by feed most (find_feed by feed t.feeds) }
 
   -- an act that was answered after a front of the history
   placed_act : (o : T) (front history : Entries) (by : ℕ) (a : Performed) → take (place_of a) history ≡ take (place_of a) front → IsAnswered machine o (take (place_of a) front) by a → ActIsPlaced m o history a

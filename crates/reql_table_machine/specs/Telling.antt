@@ -1,5 +1,5 @@
 -- What the answers of a feed's Takes tell of what its queue skipped.
-use Rattle.std.specs.Prelude.{◌≡◌, ◌≢◌, ◌≤◌, ◌<◌, ◌⊎◌, ℕ, ◌-◌, ◌^◌, min, max, List, [], ◌∷◌, ◌++◌, length, take, drop, true, false, cond, Option, Some}
+use Rattle.std.specs.Prelude.{◌≡◌, ◌≢◌, ◌≤◌, ◌<◌, ◌⊎◌, ℕ, ◌+◌, ◌-◌, ◌^◌, min, max, List, [], ◌∷◌, ◌++◌, length, take, drop, true, false, cond, Option, Some}
 use Rattle.std.specs.List.{AllByRecursion}
 use Rattle.reql_shared.specs.declared.recorded.Recorded.{Recorded}
 use Rattle.reql_shared.specs.Acts.{Act, Ran, Looked, Denied}
@@ -121,9 +121,13 @@ module _ {D J W N P M X K I F : Type 0} (m : Feeding D J W N P M X K I F) where
   MaySay t (said.FeedUnknown feed) = HasRoom t × (t.shut ≡ false)
   MaySay t other = ⊥
 
-  -- a command at its place in a history from this table
+  -- A Take at its place in a history from this table: its stamp counts the changes ahead of its place.
+  pub record Placed (t : Table D J K I) (history : List (Recorded (Order (Cmd W N P)))) (place : ℕ) (reply : Reply (Said M I)) : Type 0 where
+    pub stamp : reply.stamp ≡ t.stamp + length (changes_from m t (take place history))
+    pub says : MaySay (replay (table_machine m) t (take place history)) reply.said
+
   abbrev pub IsPlaced : Table D J K I → List (Recorded (Order (Cmd W N P))) → ℕ → Cmd W N P → Reply (Said M I) → Type 0
-  IsPlaced t history place (cmds.Take feed most) reply = MaySay (replay (table_machine m) t (take place history)) reply.said
+  IsPlaced t history place (cmds.Take feed most) reply = Placed t history place reply
   IsPlaced t history place other reply = Unit {0}
 
   abbrev pub ActIsPlaced : Table D J K I → List (Recorded (Order (Cmd W N P))) → Act (Order (Cmd W N P)) (Reply (Said M I)) (Unit {0}) (Look (D × J)) → Type 0
@@ -131,10 +135,12 @@ module _ {D J W N P M X K I F : Type 0} (m : Feeding D J W N P M X K I F) where
   ActIsPlaced t history (Looked place question answer) = Unit {0}
   ActIsPlaced t history (Denied place) = Unit {0}
 
-  -- Each Take of a user along a history is answered as the table at its place says. Of a feed that the user has open, TakesTellSkips says beside it whether
-  -- something waits; so Nothing is answered exactly where nothing waits and the table isn't shut, Gone exactly where nothing waits and it is, a batch exactly
-  -- where something waits and the history has room, and HistoryFull exactly where something waits and it has none. Rules out a feed that is told of a drop
-  -- while its table is open, one that waits on a table that was dropped, and one that is refused for a full history while there is room.
+  -- Each Take of a user along a history is answered as the table at its place says, with the stamp that it has there. So what waits at a Take, as
+  -- TakesTellSkips has it, is what the changes ahead of its place brought: rules out a Take that tells a stamp which the table had earlier, or has not reached,
+  -- and so gives less, or more, than is there. Of a feed that the user has open TakesTellSkips says beside it whether something waits; so Nothing is answered
+  -- exactly where nothing waits and the table isn't shut, Gone exactly where nothing waits and it is, a batch exactly where something waits and the history has
+  -- room, and HistoryFull exactly where something waits and it has none. Rules out a feed that is told of a drop while its table is open, one that waits on a
+  -- table that was dropped, and one that is refused for a full history while there is room.
   abbrev pub TakesArePlaced : Type 0
   TakesArePlaced = (o : Table D J K I) (before during after : List (Recorded (Order (Cmd W N P)))) (by : ℕ)
       (acts : List (Act (Order (Cmd W N P)) (Reply (Said M I)) (Unit {0}) (Look (D × J))))
