@@ -158,8 +158,9 @@ TakesLieInOrder = OfAllOpened LieInOrder
 -- ---- Each Take of a user along a history is answered as the table at its place says, with the stamp that it has there, which counts the changes ahead of it:
 -- with a batch, or that the feed is unknown, only where the history has room for one more entry, and else that it is full; and where there is nothing to give,
 -- Gone if the table is shut, and Nothing if it isn't. Whether something waits in a feed that the user has open, TakesTellSkips says, of what came up to that
--- stamp. Rules out a Take that tells a stamp which the table had earlier, or has not reached, a feed that is told of a drop while its table is open, one that
--- waits on a table that was dropped, and one that is refused for a full history while there is room.
+-- stamp. A Subscribe is answered with the stamp that the table has at its place, too. Rules out a Take that tells a stamp which the table had earlier, or has not
+-- reached, a feed that tells another stamp than the one at which it was opened, one that is told of a drop while its table is open, one that waits on a table
+-- that was dropped, and one that is refused for a full history while there is room.
 abbrev pub TakesArePlaced : Type 0
 TakesArePlaced = (s : State) (before during later : History) (by : ℕ) (acts : List Done)
     → Woven machine (replay machine s before) by (length before) acts during

@@ -1,10 +1,11 @@
 -- What a Take is answered at its place.
-use Rattle.std.proofs.Common.{◌≡◌, ◌≤◌, ◌<◌, ◌⊎◌, inl, inr, ℕ, suc, ◌-◌, ◌^◌, true, false, cond, ◌||◌, List, ◌++◌, length, take, Option, Some, None, refl, sym, ap, subst, ◌∙◌, arith, append_assoc}
+use Rattle.std.proofs.Common.{◌≡◌, ◌≤◌, ◌<◌, ◌⊎◌, inl, inr, ℕ, suc, ◌-◌, ◌^◌, true, false, cond, ◌||◌, List, [], ◌++◌, length, take, Option, Some, None, refl, sym, ap, subst, ◌∙◌, arith, append_assoc}
 use Rattle.std.specs.Prelude.{nat_lt}
 use Rattle.std.proofs.lemmas.List.{take-append-le}
 use Rattle.std.proofs.lemmas.Bool.{ltb-true, ltb-false}
 use Rattle.reql_table_machine.specs.Feeding.{Feeding}
 use Rattle.reql_table_machine.specs.Feeds.{Feed, Table, find_feed, has_something, given_by, unless_shut, takes, adds, if_room, effect, one_more, answer, reply_to_cmd, table_machine}
+use Rattle.reql_table_machine.specs.Fed.{changes_by, changes_at}
 use Rattle.reql_table_machine.specs.Telling.{HasRoom, MaySay, IsPlaced, ActIsPlaced, TakesArePlaced}
 use Rattle.reql_table_machine.specs.declared.command.Cmd.{Cmd}
 use Rattle.reql_table_machine.specs.declared.command.Cmd.TheVariants as cmds
@@ -18,7 +19,7 @@ use Rattle.reql_shared.specs.Machine.{Machine, replay}
 use Rattle.reql_shared.specs.Acts.{Act, Ran, Looked, Denied, place_of, IsAnswered, Stands}
 use Rattle.reql_shared.proofs.Standing.{woven_stands}
 use Rattle.reql_table_machine.proofs.Items.{all_map}
-use Rattle.reql_table_machine.proofs.Reach.{reach}
+use Rattle.reql_table_machine.proofs.Reach.{after_docs, reach}
 use Rattle.reql_table_machine.proofs.Tracking.{split}
 
 -- one of two numbers is past the top, or neither is
@@ -56,20 +57,22 @@ module _ {D J W N P M X K I F : Type 0} (m : Feeding D J W N P M X K I F) where
       (λ _. full_or t (said.Batch f.skipped f.last (given_by m most f)) (λ r. r))
       (λ _. split t.shut (λ b. MaySay m t (if_room m (one_more m (effect m t by (cmds.Take feed most))) (cond b said.Gone said.Nothing))) (λ e. e) (λ e. e))
 
-  -- a Take makes no change
-  take_stamp : (t : T) (by feed most : ℕ) → (reply_to_cmd m t by (cmds.Take feed most)).stamp ≡ t.stamp
-  take_stamp t by feed most = split (adds m (answer m t by (cmds.Take feed most))) (λ b. (cond b (one_more m (effect m t by (cmds.Take feed most))) t).stamp ≡ t.stamp) (λ _. refl) (λ _. refl)
+  -- a command that makes no change
+  same_stamp : (t : T) (by : ℕ) (cmd : Cmd W N P) → changes_by m t cmd ≡ [] → (reply_to_cmd m t by cmd).stamp ≡ t.stamp
+  same_stamp t by cmd e =
+      let none : changes_at m t by cmd ≡ [] = split (adds m (answer m t by cmd)) (λ b. cond b (changes_by m t cmd) [] ≡ []) (λ _. e) (λ _. refl) in
+      omega (arith, (after_docs m t by cmd).1, ap length none)
 
   placed_cmd : (o : T) (history : Entries) (place by : ℕ) (cmd : Cmd W N P) → IsPlaced m o history place cmd (reply_to_cmd m (replay machine o (take place history)) by cmd)
   placed_cmd o history place by (cmds.Write w) = tt
   placed_cmd o history place by (cmds.Index n) = tt
-  placed_cmd o history place by (cmds.Subscribe p) = tt
+  placed_cmd o history place by (cmds.Subscribe p) = omega (arith, same_stamp (replay machine o (take place history)) by (cmds.Subscribe p) refl, (reach m o (take place history)).1)
   placed_cmd o history place by (cmds.Unsubscribe feed) = tt
   placed_cmd o history place by cmds.Shut = tt
   placed_cmd o history place by cmds.Sync = tt
   placed_cmd o history place by (cmds.Take feed most) =
       let t : T = replay machine o (take place history) in
-      record { stamp = omega (arith, take_stamp t by feed most, (reach m o (take place history)).1); says = may_say t by feed most (find_feed by feed t.feeds) }
+      record { stamp = omega (arith, same_stamp t by (cmds.Take feed most) refl, (reach m o (take place history)).1); says = may_say t by feed most (find_feed by feed t.feeds) }
 
   -- an act that was answered after a front of the history
   placed_act : (o : T) (front history : Entries) (by : ℕ) (a : Performed) → take (place_of a) history ≡ take (place_of a) front → IsAnswered machine o (take (place_of a) front) by a → ActIsPlaced m o history a

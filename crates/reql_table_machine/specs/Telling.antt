@@ -127,6 +127,7 @@ module _ {D J W N P M X K I F : Type 0} (m : Feeding D J W N P M X K I F) where
     pub says : MaySay (replay (table_machine m) t (take place history)) reply.said
 
   abbrev pub IsPlaced : Table D J K I → List (Recorded (Order (Cmd W N P))) → ℕ → Cmd W N P → Reply (Said M I) → Type 0
+  IsPlaced t history place (cmds.Subscribe p) reply = reply.stamp ≡ t.stamp + length (changes_from m t (take place history))
   IsPlaced t history place (cmds.Take feed most) reply = Placed t history place reply
   IsPlaced t history place other reply = Unit {0}
 
@@ -135,12 +136,13 @@ module _ {D J W N P M X K I F : Type 0} (m : Feeding D J W N P M X K I F) where
   ActIsPlaced t history (Looked place question answer) = Unit {0}
   ActIsPlaced t history (Denied place) = Unit {0}
 
-  -- Each Take of a user along a history is answered as the table at its place says, with the stamp that it has there. So what waits at a Take, as
-  -- TakesTellSkips has it, is what the changes ahead of its place brought: rules out a Take that tells a stamp which the table had earlier, or has not reached,
-  -- and so gives less, or more, than is there. Of a feed that the user has open TakesTellSkips says beside it whether something waits; so Nothing is answered
-  -- exactly where nothing waits and the table isn't shut, Gone exactly where nothing waits and it is, a batch exactly where something waits and the history has
-  -- room, and HistoryFull exactly where something waits and it has none. Rules out a feed that is told of a drop while its table is open, one that waits on a
-  -- table that was dropped, and one that is refused for a full history while there is room.
+  -- Each Take of a user along a history is answered as the table at its place says, with the stamp that it has there; and a Subscribe with that stamp too. So
+  -- what comes to a feed is what the changes behind its opening bring, and what waits at a Take, as TakesTellSkips has it, is of those ahead of its place: rules
+  -- out a Take that tells a stamp which the table had earlier, or has not reached, and so gives less, or more, than is there, and a feed that tells another stamp
+  -- than the one at which it was opened. Of a feed that the user has open TakesTellSkips says beside it whether something waits; so Nothing is answered exactly
+  -- where nothing waits and the table isn't shut, Gone exactly where nothing waits and it is, a batch exactly where something waits and the history has room, and
+  -- HistoryFull exactly where something waits and it has none. Rules out a feed that is told of a drop while its table is open, one that waits on a table that
+  -- was dropped, and one that is refused for a full history while there is room.
   abbrev pub TakesArePlaced : Type 0
   TakesArePlaced = (o : Table D J K I) (before during after : List (Recorded (Order (Cmd W N P)))) (by : ℕ)
       (acts : List (Act (Order (Cmd W N P)) (Reply (Said M I)) (Unit {0}) (Look (D × J))))

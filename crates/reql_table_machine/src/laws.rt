@@ -62,9 +62,9 @@ pub fn skips_of_full_queues<F: Meaning>()
 /// the Take before left and what came since, the oldest that have no place are gone: just these the
 /// answer tells, before the items that it gives of those behind them. So all that came to a feed is
 /// told once, in its order: as one of so many skipped, or in a batch. What has come by a Take is what
-/// the changes ahead of its place brought: the answer's stamp counts these. A Take of such a feed is
-/// answered Nothing exactly where nothing waits and the table isn't shut at its place, and Gone exactly
-/// where nothing waits and it is. Where something waits it is given, as long as the history has room for
+/// the changes behind the opening and ahead of its place brought: the stamp of an answer counts the
+/// changes ahead of it. A Take of such a feed is answered Nothing exactly where nothing waits and the
+/// table isn't shut at its place, and Gone exactly where nothing waits and it is. Where something waits it is given, as long as the history has room for
 /// one more entry; else all of it waits on, and the answer is that the history is full. A table is shut
 /// exactly where it was or a command of its history dropped it.
 pub fn takes_tell_skips<F: Meaning>()
