@@ -133,22 +133,24 @@ FeedsFold = (s : State) (before during later : History) (by : ℕ) (acts : List 
     → AllFed s (before ++ (during ++ later)) acts
 
 -- ---- of each feed that a user opened by its acts along a history: what holds of its request, of all items that the changes after its opening append to it,
--- and of its Takes until it is closed
+-- and of its Takes up to the first Unsubscribe of it that the user asks, whatever that is answered
 abbrev pub OfAllOpened : (ℕ → Held → List (ℕ × Plain) → List (Taking Summary Plain) → Type 0) → Type 0
 OfAllOpened holds = (s : State) (before during later : History) (by : ℕ) (acts : List Done)
     → s.table.feeds ≡ [] → Woven machine (replay machine s before) by (length before) acts during
     → telling.AllOpened (feeding s.most) (holds s.most) s.table (map known_entry (before ++ (during ++ later))) (map known_act acts)
 
 -- each Take's answer tells just what went of that which waited since the Take before: rules out a skip that is told of nothing that went, one that is not
--- told, or told again by a later Take, and one that is told behind an item that came after it
+-- told, or told again by a later Take, and one that is told behind an item that came after it; a batch in which something is missing, or twice, or out of its
+-- order; and a Take that is answered Nothing while something waits. What is behind the last Take waits on, and nothing is said of it.
 abbrev pub TellSkips : ℕ → Held → List (ℕ × Plain) → List (Taking Summary Plain) → Type 0
 TellSkips most h items ts = telling.AreTold (feeding most) h 0 [] items ts
 
 abbrev pub TakesTellSkips : Type 0
 TakesTellSkips = OfAllOpened TellSkips
 
--- while no count is at its end, all that came is told in its order, each item as one of so many skipped or in a batch: rules out an item of which nothing is
--- told, or twice
+-- While no count is at its end, what the Takes tell of lies at the front of all that came, in their order: each item is one of so many skipped, or one of those of
+-- which a batch is given, which are its items or, of a feed that squashes, what their net joins. Rules out an item that is passed over by Takes which tell of
+-- those before and behind it, and one that is told of twice. How far the Takes reach TakesTellSkips says.
 abbrev pub LieInOrder : ℕ → Held → List (ℕ × Plain) → List (Taking Summary Plain) → Type 0
 LieInOrder most h items ts = AllByRecursion (λ (t : Taking Summary Plain). telling.IsCounted t) ts → telling.AreLaid (feeding most) h ts items
 

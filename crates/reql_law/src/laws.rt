@@ -35,13 +35,18 @@ pub fn feeds_of_histories_fold()
 {}
 
 /// The answers of a feed's Takes tell what its queue skipped, for each feed that a user opened along a
-/// history: just what went of that which waited since the Take before, ahead of the items that were
-/// behind it; so all that its changes appended to it is told once, in its order. What has come by a Take
-/// is what the changes behind the opening and ahead of its place brought: the stamp of an answer counts
-/// the changes ahead of it. A Take of it is answered Nothing exactly where nothing waits and the table
-/// isn't shut at its place, and Gone exactly where nothing waits and it is. Where something waits it is given, as long as the history has room for
-/// one more entry; else all of it waits on, and the answer is that the history is full. A table is shut
-/// exactly where it was or a command of its history dropped it.
+/// history, up to the first Unsubscribe of it that the user asks, whatever that is answered: just what
+/// went of that which waited since the Take before, up to the count's end, ahead of what they give of the
+/// items that were behind it. So, while no count of skipped items is at its end, all that the Takes
+/// reached is told once, in its order: as one of so many skipped, or in a batch, by itself or, where the
+/// feed squashes, joined with the rest of the batch. Of what is behind the last Take nothing is said.
+/// What has come by a Take is what the changes behind the opening and ahead of its place brought: the
+/// stamp of an answer counts the changes ahead of it.
+///
+/// A Take of such a feed is answered Nothing exactly where nothing waits and the table isn't shut at its
+/// place, and Gone exactly where nothing waits and it is. Where something waits it is given, as long as
+/// the history has room for one more entry; else all of it waits on, and the answer is that the history
+/// is full. A table is shut exactly where it was or a command of its history dropped it.
 pub fn takes_tell_skips()
     ensures told { TakesTellSkips }
     ensures laid { TakesLieInOrder }

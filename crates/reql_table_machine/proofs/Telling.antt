@@ -295,7 +295,7 @@ module _ {D J W N P M X K I F : Type 0} (m : Feeding D J W N P M X K I F) where
     below = tt;
   })
 
-  -- ---- all that came lies in the order of the Takes
+  -- ---- what the Takes tell of lies in their order at the front of all that came
   laid_batch : (k : K) (most last : ℕ) (waiting : List (ℕ × I)) (skipped shown : ℕ) (is left later : List (ℕ × I)) → skipped < 2 ^ 64 - 1 → Parts m k most last waiting skipped shown is left
       → (gone queue : List (ℕ × I)) × (waiting ++ later ≡ gone ++ (queue ++ (left ++ later))) × (length gone ≡ skipped) × (is ≡ cond (m.squashes k) (m.net k queue) queue)
   laid_batch k most last waiting skipped shown is left later c p = (

@@ -71,13 +71,13 @@ module _ {W N P M I : Type 0} where
   taking_by number other reply = []
 
 module _ {W N P : Type 0} where
-  -- whether a command closes a feed of who gives it
+  -- whether a command asks to close a feed of who gives it
   abbrev pub is_end : ℕ → Cmd W N P → Bool
   is_end number (cmds.Unsubscribe feed) = nat_eq feed number
   is_end number other = false
 
 module _ {W N P M I Q A : Type 0} where
-  -- the Takes of a feed among a session's acts on its slot, until it is closed
+  -- the Takes of a feed among a session's acts on its slot, up to the first Unsubscribe of it, whatever that is answered
   abbrev pub takings : ℕ → List (Act (Order (Cmd W N P)) (Reply (Said M I)) Q A) → List (Taking M I)
   takings number [] = []
   takings number (Ran place order reply ∷ acts) = cond (is_end number order.cmd) [] (taking_by number order.cmd reply ++ takings number acts)

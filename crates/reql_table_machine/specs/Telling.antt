@@ -1,4 +1,4 @@
--- What the answers of a feed's Takes tell of what its queue skipped.
+-- What the answers of a feed's Takes tell: of what its queue skipped, and of the table at their places.
 use Rattle.std.specs.Prelude.{◌≡◌, ◌≢◌, ◌≤◌, ◌<◌, ◌⊎◌, ℕ, ◌+◌, ◌-◌, ◌^◌, min, max, List, [], ◌∷◌, ◌++◌, length, take, drop, true, false, cond, Option, Some}
 use Rattle.std.specs.List.{AllByRecursion}
 use Rattle.reql_shared.specs.declared.recorded.Recorded.{Recorded}
@@ -63,13 +63,13 @@ module _ {D J W N P M X K I F : Type 0} (m : Feeding D J W N P M X K I F) where
   Gives k taken other = taken ≡ []
 
   -- Items in the order of the Takes that tell of them: as many as the first tells as skipped, then those of which it gives a batch, then as many as the next
-  -- tells as skipped, and so on.
+  -- tells as skipped, and so on; and behind the last Take any.
   abbrev pub AreLaid : K → List (Taking M I) → List (ℕ × I) → Type 0
   AreLaid k [] items = Unit {0}
   AreLaid k (t ∷ ts) items = (gone taken rest : List (ℕ × I)) × (items ≡ gone ++ (taken ++ rest)) × (length gone ≡ skips_of t.said) × Gives k taken t.said × AreLaid k ts rest
 
   -- Of each feed that a user opened by its acts along this history from this table: what holds of what it keeps, of all items that the changes after its
-  -- opening append to it, and of its Takes until it is closed.
+  -- opening append to it, and of its Takes up to the first Unsubscribe of it that its user asks, whatever that is answered.
   module _ (holds : K → List (ℕ × I) → List (Taking M I) → Type 0) where
     abbrev pub OpenedSaid : Table D J K I → List (Recorded (Order (Cmd W N P))) → Option K → ℕ → Said M I → List (Act (Order (Cmd W N P)) (Reply (Said M I)) (Unit {0}) (Look (D × J))) → Type 0
     OpenedSaid t history (Some k) stamp (said.Opened number opening) acts =
@@ -94,12 +94,14 @@ module _ {D J W N P M X K I F : Type 0} (m : Feeding D J W N P M X K I F) where
       → AllOpened holds o (before ++ (during ++ after)) acts
 
   -- each Take's answer tells just what went of that which waited since the Take before: rules out a skip that is told of nothing that went, one that is not
-  -- told, or told again by a later Take, and one that is told behind an item that came after it
+  -- told, or told again by a later Take, and one that is told behind an item that came after it; a batch in which something is missing, or twice, or out of its
+  -- order; and a Take that is answered Nothing while something waits. What is behind the last Take waits on, and nothing is said of it.
   abbrev pub TakesTellSkips : Type 0
   TakesTellSkips = OfAllOpened (λ k items ts. AreTold k 0 [] items ts)
 
-  -- while no count is at its end, all that came is told in its order, each item as one of so many skipped or in a batch: rules out an item of which nothing
-  -- is told, or twice
+  -- While no count is at its end, what the Takes tell of lies at the front of all that came, in their order: each item is one of so many skipped, or one of those
+  -- of which a batch is given, which are its items or, of a feed that squashes, what their net joins. Rules out an item that is passed over by Takes which tell of
+  -- those before and behind it, and one that is told of twice. How far the Takes reach TakesTellSkips says.
   abbrev pub TakesLieInOrder : Type 0
   TakesLieInOrder = OfAllOpened (λ k items ts. AllByRecursion (λ (t : Taking M I). IsCounted t) ts → AreLaid k ts items)
 

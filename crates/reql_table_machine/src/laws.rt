@@ -58,15 +58,19 @@ pub fn skips_of_full_queues<F: Meaning>()
     ensures between { SkipsBetweenTakes F.feeding }
 {}
 
-/// The answers of a feed's Takes tell what its queue skipped. Of what waits at a Take, which is what
-/// the Take before left and what came since, the oldest that have no place are gone: just these the
-/// answer tells, before the items that it gives of those behind them. So all that came to a feed is
-/// told once, in its order: as one of so many skipped, or in a batch. What has come by a Take is what
-/// the changes behind the opening and ahead of its place brought: the stamp of an answer counts the
-/// changes ahead of it. A Take of such a feed is answered Nothing exactly where nothing waits and the
-/// table isn't shut at its place, and Gone exactly where nothing waits and it is. Where something waits it is given, as long as the history has room for
-/// one more entry; else all of it waits on, and the answer is that the history is full. A table is shut
-/// exactly where it was or a command of its history dropped it.
+/// The answers of a feed's Takes tell what its queue skipped, for each feed that a user opened along a
+/// history, up to the first Unsubscribe of it that the user asks, whatever that is answered. Of what waits
+/// at a Take, which is what the Take before left and what came since, the oldest that have no place are
+/// gone: just these the answer tells, up to the count's end, before what it gives of those behind them.
+/// So, while no count is at its end, all that the Takes reached is told once, in its order: as one of so
+/// many skipped, or in a batch, by itself or, where the feed squashes, joined with the rest of the batch.
+/// Of what is behind the last Take nothing is said. What has come by a Take is what the changes behind
+/// the opening and ahead of its place brought: the stamp of an answer counts the changes ahead of it.
+///
+/// A Take of such a feed is answered Nothing exactly where nothing waits and the table isn't shut at its
+/// place, and Gone exactly where nothing waits and it is. Where something waits it is given, as long as
+/// the history has room for one more entry; else all of it waits on, and the answer is that the history
+/// is full. A table is shut exactly where it was or a command of its history dropped it.
 pub fn takes_tell_skips<F: Meaning>()
     ensures told { TakesTellSkips F.feeding }
     ensures laid { TakesLieInOrder F.feeding }
