@@ -1,11 +1,11 @@
 -- That every feed that a plan asks for follows something: reading and planning leave a term as the law of plans asks for.
-use Rattle.std.proofs.Common.{◌≡◌, ℕ, List, map, Bool, true, false, cond, nat_eq, if◌then◌else◌, Option, Some, None, option_and_then, Result, Ok, Err, refl, ap, sym, subst}
+use Rattle.std.proofs.Common.{◌≡◌, ℕ, List, [], ◌∷◌, ◌++◌, map, filter, Bool, true, false, cond, nat_eq, if◌then◌else◌, Option, Some, None, option_and_then, inl, inr, Result, Ok, Err, refl, ap, sym, subst, ◌∙◌}
 use Rattle.std.specs.Str.{is_utf8}
 use Rattle.serde_json.specs.Data.{Data, null, boolean, number, string, array, object, Items, no_items, item, Members, no_members}
 use Rattle.json.specs.Json as text
 use Rattle.json.specs.Lex.{tokens}
 use Rattle.serde_json.specs.Read as json
-use Rattle.reql_datum.specs.Answer.{◌>>=◌}
+use Rattle.reql_datum.specs.Answer.{◌>>=◌, Reason, query_logic, non_existence, resource_limit, op_failed, user, no_text}
 use Rattle.reql_term.specs.Form.{Form}
 use Rattle.reql_faults.specs.Faults.{plan_fault}
 use Rattle.reql_faults.specs.declared.fault.CompileFault.{CompileFault}
@@ -18,17 +18,22 @@ use Rattle.reql_read.specs.Written.{Written}
 use Rattle.reql_read.specs.declared.fault.ReadFault.{ReadFault}
 use Rattle.reql_read.specs.declared.fault.ReadFault.TheVariants as fault
 use Rattle.reql_law.specs.declared.command.Order.{Order}
+use Rattle.reql_law.specs.declared.limits.Limits.{Limits}
+use Rattle.reql_plan_law.specs.declared.parts.Opening.{Opening}
 use Rattle.reql_plan_law.specs.declared.parts.Plan.{Plan}
+use Rattle.reql_plan_law.specs.Asked.{move_in, asks_along, opens_feed, asks_feed, feeds_asked, asked_for, AsksForItsOwn, EndsWithItsOwn}
 use Rattle.reql_plan_law.specs.Course.{plan_next}
+use Rattle.reql_plan_law.specs.Held.{Held}
 use Rattle.reql_plan_law.specs.Move as plans
 use Rattle.reql_plan_law.specs.Opens.{is_asked}
 use Rattle.reql_plan_law.specs.Request as requests
-use Rattle.reql_plan_law.proofs.Asked.{each_is_of_its_term}
+use Rattle.reql_plan_law.proofs.Asked.{feeds_are_asked_in_turn, no_other_feeds_are_asked, each_is_of_its_term, feeds_end_with_their_own}
 use Rattle.reql_plan_law.proofs.Opens.{asked_feeds_are_read}
-use Rattle.reql_story.specs.Requests.{Start, RunSlot}
+use Rattle.reql_story.specs.Requests.{Arm, Shown, Answered, Feed, Move, Start, RunSlot, Ends, Found}
 use Rattle.reql_told.specs.Asking.{plan_of, planned, refused, asked_by, asked}
-use Rattle.reql_told.specs.Laws.{AllFeedsAreRead, AllFeedsAreTheirs}
-use Rattle.reql_told.specs.Told.{heard_of, asked_of, move_of, setting_of}
+use Rattle.reql_told.specs.Feeds.{moves_along, runs_feed, feeds_run, run_for, held_by, RunsItsOwn, EndsWithItsFeeds}
+use Rattle.reql_told.specs.Laws.{AllFeedsAreRead, AllFeedsAreTheirs, AllFeedsAreAskedInTurn, AllRunNoOtherFeeds, AllFeedsEndWithTheirOwn}
+use Rattle.reql_told.specs.Told.{heard_of, fault_of, answered_of, asked_of, move_of, setting_of, moves_of}
 use Rattle.reql_told.proofs.Once.{given, inside, bound, chained, Rises, AllRise, json_rises, asked_of_data}
 
 -- ---- the term of a query has the shape of a term, and is of a text
@@ -194,3 +199,115 @@ all_feeds_are_theirs key limits body noreply plan quiet count found n order spec
     let hs : List plans.Heard = map heard_of found in
     each_is_of_its_term plan (setting_of limits quiet count) hs n order spec good.0 good.1
     (of_move (plan_next plan (setting_of limits quiet count) hs) n order asks) opens
+
+-- ---- all that is run to open feeds is what the plan asks its slots for
+one_or_none : (b : Bool) (q : plans.Ask) (ms : List Move) (qs : List plans.Ask) → ms ≡ map asked_of qs → cond b (asked_of q ∷ ms) ms ≡ map asked_of (cond b (q ∷ qs) qs)
+one_or_none true q ms qs h = ap (λ rest. asked_of q ∷ rest) h
+one_or_none false q ms qs h = h
+
+with_move : (x : requests.Next) (ms : List Move) (qs : List plans.Ask) → filter runs_feed ms ≡ map asked_of (filter asks_feed qs)
+    → filter runs_feed (move_of x ∷ ms) ≡ map asked_of (filter asks_feed (move_in x ++ qs))
+with_move (requests.answered o) ms qs h = h
+with_move (requests.moves plans.look_names) ms qs h = h
+with_move (requests.moves plans.tell) ms qs h = h
+with_move (requests.moves (plans.look n)) ms qs h = h
+with_move (requests.moves (plans.run n order)) ms qs h = one_or_none (opens_feed order.cmd) (plans.run n order) (filter runs_feed ms) (filter asks_feed qs) h
+with_move (requests.moves (plans.change_names c)) ms qs h = h
+with_move (requests.moves plans.roll) ms qs h = h
+
+last_move : (x : requests.Next) → filter runs_feed (move_of x ∷ []) ≡ map asked_of (filter asks_feed (move_in x))
+last_move (requests.answered o) = refl
+last_move (requests.moves q) = with_move (requests.moves q) [] [] refl
+
+run_along : (next : List plans.Heard → requests.Next) (found : List Found)
+    → feeds_run (λ more. move_of (next (map heard_of more))) found ≡ map asked_of (filter asks_feed (asks_along next (map heard_of found)))
+run_along next [] = last_move (next [])
+run_along next (f ∷ found) =
+    let rest : List Move = moves_along (λ more. move_of (next (heard_of f ∷ map heard_of more))) found in
+    with_move (next []) rest (asks_along (λ more. next (heard_of f ∷ more)) (map heard_of found)) (run_along (λ more. next (heard_of f ∷ more)) found)
+
+all_for : (e : Held) (os : List Opening) → map asked_of (map (asked_for e) os) ≡ map (run_for e) os
+all_for e [] = refl
+all_for e (o ∷ os) = ap (λ ms. run_for e o ∷ ms) (all_for e os)
+
+-- ---- and a feed that is told is the plan's
+abbrev EndsSo : requests.Next → List Arm → List ℕ → List Shown → Type 0
+EndsSo x arms notes items = (own : List plans.Arm) × (ns : List ℕ) × (xs : List plans.Item) × (x ≡ requests.answered (plans.feed own ns xs)) × (Feed arms notes items ≡ answered_of (plans.feed own ns xs))
+
+of_fault : (why : Reason) (arms : List Arm) (notes : List ℕ) (items : List Shown) → fault_of why ≡ Feed arms notes items → ⊥
+of_fault (query_logic s) arms notes items h = cc (h)
+of_fault (non_existence s) arms notes items h = cc (h)
+of_fault (resource_limit s) arms notes items h = cc (h)
+of_fault (op_failed s) arms notes items h = cc (h)
+of_fault (user s) arms notes items h = cc (h)
+of_fault no_text arms notes items h = cc (h)
+
+same_end : (a b : Answered) → Ends a ≡ Ends b → a ≡ b
+same_end a b h = cc
+
+of_outcome : (o : plans.Outcome) (arms : List Arm) (notes : List ℕ) (items : List Shown) → answered_of o ≡ Feed arms notes items → EndsSo (requests.answered o) arms notes items
+of_outcome (plans.feed own ns xs) arms notes items h = (own, ns, xs, refl, sym h)
+of_outcome plans.unsent arms notes items h = absurd (cc (h))
+of_outcome (plans.atom d) arms notes items h = absurd (cc (h))
+of_outcome (plans.grouped gs) arms notes items h = absurd (cc (h))
+of_outcome (plans.sequence ds) arms notes items h = absurd (cc (h))
+of_outcome (plans.stop (plans.fault why)) arms notes items h = absurd (of_fault why arms notes items h)
+of_outcome (plans.stop plans.memory) arms notes items h = absurd (cc (h))
+
+not_ends : (q : plans.Ask) (a : Answered) → asked_of q ≡ Ends a → ⊥
+not_ends plans.look_names a h = cc (h)
+not_ends plans.tell a h = cc (h)
+not_ends (plans.look n) a h = cc (h)
+not_ends (plans.run n order) a h = cc (h)
+not_ends (plans.change_names c) a h = cc (h)
+not_ends plans.roll a h = cc (h)
+
+of_end : (x : requests.Next) (arms : List Arm) (notes : List ℕ) (items : List Shown) → move_of x ≡ Ends (Feed arms notes items) → EndsSo x arms notes items
+of_end (requests.answered o) arms notes items h = of_outcome o arms notes items (same_end (answered_of o) (Feed arms notes items) h)
+of_end (requests.moves q) arms notes items h = absurd (not_ends q (Feed arms notes items) h)
+
+module _ (limits : Limits) (plan : Plan) (quiet : Bool) (count : ℕ) (found : List Found) where
+  abbrev next_of : List plans.Heard → requests.Next
+  next_of hs = plan_next plan (setting_of limits quiet count) hs
+
+  run_as_asked : (e : Held) (os : List Opening) → feeds_asked plan (setting_of limits quiet count) (map heard_of found) ≡ map (asked_for e) os
+      → feeds_run (moves_of limits plan quiet count) found ≡ map (run_for e) os
+  run_as_asked e os h = run_along next_of found ∙ ap (map asked_of) h ∙ all_for e os
+
+  runs_its_own : AsksForItsOwn plan (setting_of limits quiet count) (map heard_of found) → RunsItsOwn limits plan quiet count found (moves_of limits plan quiet count)
+  runs_its_own x = record {
+    changes = x.changes;
+    run = run_as_asked (held_by limits plan quiet count found x.changes) _ x.asked;
+    own = x.own;
+  }
+
+  ends_with_its_feeds : (arms : List Arm) (notes : List ℕ) (items : List Shown) (o : plans.Outcome) → Feed arms notes items ≡ answered_of o
+      → EndsWithItsOwn plan (setting_of limits quiet count) (map heard_of found) o → EndsWithItsFeeds limits plan quiet count found (moves_of limits plan quiet count) arms notes items
+  ends_with_its_feeds arms notes items o is x = record {
+    changes = x.changes;
+    own = x.own;
+    run = run_as_asked (held_by limits plan quiet count found x.changes) x.changes.feeds.openings x.asked;
+    opened = x.opened;
+    each = x.each;
+    told = is ∙ ap answered_of x.told;
+  }
+
+pub all_feeds_are_asked_in_turn : AllFeedsAreAskedInTurn
+all_feeds_are_asked_in_turn key limits body noreply plan quiet count found is c =
+    run_as_asked limits plan quiet count found (held_by limits plan quiet count found c) _ (feeds_are_asked_in_turn plan (setting_of limits quiet count) (map heard_of found) c)
+
+pub all_run_no_other_feeds : AllRunNoOtherFeeds
+all_run_no_other_feeds key limits body noreply plan quiet count found is =
+    let good = of_body noreply plan body is in
+    elim (no_other_feeds_are_asked plan (setting_of limits quiet count) (map heard_of found) good.0 good.1) [
+      | inl none ↦ inl (run_along (next_of limits plan quiet count found) found ∙ ap (map asked_of) none)
+      | inr x ↦ inr (runs_its_own limits plan quiet count found x)
+    ]
+
+pub all_feeds_end_with_their_own : AllFeedsEndWithTheirOwn
+all_feeds_end_with_their_own key limits body noreply plan quiet count found arms notes items is ends =
+    let good = of_body noreply plan body is in
+    let hs : List plans.Heard = map heard_of found in
+    let told = of_end (plan_next plan (setting_of limits quiet count) hs) arms notes items ends in
+    ends_with_its_feeds limits plan quiet count found arms notes items (plans.feed told.0 told.1 told.2) told.4
+    (feeds_end_with_their_own plan (setting_of limits quiet count) hs told.0 told.1 told.2 good.0 good.1 told.3)

@@ -1,5 +1,5 @@
 -- What is so of sessions that are told of these plans, whatever their key and their limits.
-use Rattle.std.specs.Prelude.{◌≡◌, ℕ, List, map, Bool, min}
+use Rattle.std.specs.Prelude.{◌≡◌, ℕ, List, [], map, Bool, min, ◌⊎◌}
 use Rattle.reql_admin.specs.Server.{server}
 use Rattle.reql_json.specs.Showing.{shown}
 use Rattle.reql_hall.specs.Shares.{IsKept}
@@ -16,8 +16,9 @@ use Rattle.reql_story.specs.Bodies.{server_info}
 use Rattle.reql_story.specs.Explained.{ExplainedBy}
 use Rattle.reql_story.specs.Laws as story
 use Rattle.reql_story.specs.Minding.{PlansMind}
-use Rattle.reql_story.specs.Requests.{Start, RunSlot, Found}
+use Rattle.reql_story.specs.Requests.{Arm, Shown, Feed, Start, RunSlot, Ends, Found}
 use Rattle.reql_story.specs.Tasks.{Talk, batch_size}
+use Rattle.reql_told.specs.Feeds.{feeds_run, Comes, AreRunInTurn, RunsItsOwn, EndsWithItsFeeds}
 use Rattle.reql_told.specs.Told.{talk, comes_by, setting_of, heard_of}
 
 -- plans mind their feeds
@@ -39,6 +40,24 @@ abbrev pub AllFeedsAreTheirs : Type 0
 AllFeedsAreTheirs = (key : List ℕ) (limits : Limits) (body : List ℕ) (noreply : Bool) (plan : Plan) (quiet : Bool) (count : ℕ) (found : List Found) (n : ℕ) (order : Order) (spec : FeedSpec)
     → (talk key limits).asked body ≡ Start noreply plan → (talk key limits).next plan quiet count found ≡ RunSlot n order → order.cmd ≡ cmds.Subscribe spec
     → IsOfItsTerm plan (setting_of limits quiet count) (map heard_of found) n order spec
+
+-- A body whose plan came to the feeds of a CHANGES runs these in their order, each once the one before it is open, and none after one that isn't.
+abbrev pub AllFeedsAreAskedInTurn : Type 0
+AllFeedsAreAskedInTurn = (key : List ℕ) (limits : Limits) (body : List ℕ) (noreply : Bool) (plan : Plan) (quiet : Bool) (count : ℕ) (found : List Found)
+    → (talk key limits).asked body ≡ Start noreply plan → (c : Comes limits plan quiet count found) → AreRunInTurn limits plan quiet count found ((talk key limits).next plan quiet count) c
+
+-- And no other feed is opened for any body: it runs none at all, or its plan came to the feeds of a CHANGES, and each of these is its own term's.
+abbrev pub AllRunNoOtherFeeds : Type 0
+AllRunNoOtherFeeds = (key : List ℕ) (limits : Limits) (body : List ℕ) (noreply : Bool) (plan : Plan) (quiet : Bool) (count : ℕ) (found : List Found)
+    → (talk key limits).asked body ≡ Start noreply plan → (feeds_run ((talk key limits).next plan quiet count) found ≡ [])
+    ⊎ RunsItsOwn limits plan quiet count found ((talk key limits).next plan quiet count)
+
+-- Where a plan ends with a feed, all feeds of its CHANGES were run and are open, and its arms, notes and first items are those of just these.
+abbrev pub AllFeedsEndWithTheirOwn : Type 0
+AllFeedsEndWithTheirOwn = (key : List ℕ) (limits : Limits) (body : List ℕ) (noreply : Bool) (plan : Plan) (quiet : Bool) (count : ℕ) (found : List Found)
+    (arms : List Arm) (notes : List ℕ) (items : List Shown)
+    → (talk key limits).asked body ≡ Start noreply plan → (talk key limits).next plan quiet count found ≡ Ends (Feed arms notes items)
+    → EndsWithItsFeeds limits plan quiet count found ((talk key limits).next plan quiet count) arms notes items
 
 -- a session cuts a plan's answers by the batch that the plan counts by
 abbrev pub BatchesAgree : Type 0

@@ -1,5 +1,5 @@
 // Laws of sessions that plan ReQL.
-ghost use Rattle.reql_told.specs.Laws.{PlansAreTold, BatchesAgree, InfoIsServers, AllInOrder, AllFramesHandled, AllWornLate, AllFirstFailed, AllAreAnswered, AllWaitForNothing, AllValidClose, AllKept, AllOneMore, AllLearning, AllNothingLeft, AllFeedsHold, AllSkipsAreSent, AllFeedsAreRead, AllFeedsAreTheirs};
+ghost use Rattle.reql_told.specs.Laws.{PlansAreTold, BatchesAgree, InfoIsServers, AllInOrder, AllFramesHandled, AllWornLate, AllFirstFailed, AllAreAnswered, AllWaitForNothing, AllValidClose, AllKept, AllOneMore, AllLearning, AllNothingLeft, AllFeedsHold, AllSkipsAreSent, AllFeedsAreRead, AllFeedsAreTheirs, AllFeedsAreAskedInTurn, AllRunNoOtherFeeds, AllFeedsEndWithTheirOwn};
 ghost use Rattle.reql_told.specs.Refusing.{FirstRefusal, ShapeRefusal};
 
 /// Plans, as a session is told of them, take from no feed, close only what they opened and is open still, and tell of
@@ -13,9 +13,15 @@ pub fn plans_are_told()
 /// whatever the body is and whatever the moves of its plan are answered: none stays silent since its term could not be read.
 /// And it is its own term's: of those that CHANGES follows, the first one that has no answer yet. It is asked of the table
 /// that this term is on, to follow it with the data of its arguments in their places, by its shape and the options of CHANGES.
+/// What is run to open feeds for a plan is all feeds of its CHANGES in their order, each once the one before it is open, and
+/// none after one that isn't; no other feed is run for any body. Where a plan ends with a feed, all feeds of its CHANGES were
+/// run and are open, and its arms, notes and first items are those of just these.
 pub fn feeds_are_read()
     ensures read { AllFeedsAreRead }
     ensures theirs { AllFeedsAreTheirs }
+    ensures turn { AllFeedsAreAskedInTurn }
+    ensures others { AllRunNoOtherFeeds }
+    ensures ends { AllFeedsEndWithTheirOwn }
 {}
 
 /// A START is refused by the first of its refusals before anything is looked at: that its token has something open, the

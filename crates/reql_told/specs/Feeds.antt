@@ -1,0 +1,67 @@
+-- All that a session is asked to run to open feeds for a plan, by what the plan's moves found, and what it is then told of them, in the session's words.
+use Rattle.std.specs.Prelude.{◌≡◌, ℕ, List, [], ◌∷◌, map, filter, Bool, false}
+use Rattle.reql_law.specs.declared.command.Cmd.TheVariants as cmds
+use Rattle.reql_law.specs.declared.limits.Limits.{Limits}
+use Rattle.reql_plan_law.specs.declared.parts.Opening.{Opening}
+use Rattle.reql_plan_law.specs.declared.parts.Plan.{Plan}
+use Rattle.reql_plan_law.specs.Asked.{opens_feed, Changing, reached, AreOpened}
+use Rattle.reql_plan_law.specs.Course as courses
+use Rattle.reql_plan_law.specs.Course.{order_of, first_items, notes_of, held}
+use Rattle.reql_plan_law.specs.Held.{Held}
+use Rattle.reql_plan_law.specs.Move as plans
+use Rattle.reql_plan_law.specs.Theirs.{AreOf}
+use Rattle.reql_story.specs.Requests.{Arm, Shown, Answered, Feed, Move, RunSlot, Found}
+use Rattle.reql_told.specs.Told.{heard_of, setting_of, answered_of}
+
+-- ---- the moves that open a feed
+
+-- what comes before the first of these was found, and after each of them
+abbrev pub moves_along : (List Found → Move) → List Found → List Move
+moves_along next [] = next [] ∷ []
+moves_along next (f ∷ found) = next [] ∷ moves_along (λ more. next (f ∷ more)) found
+
+abbrev pub runs_feed : Move → Bool
+runs_feed (RunSlot n order) = opens_feed order.cmd
+runs_feed m = false
+
+abbrev pub feeds_run : (List Found → Move) → List Found → List Move
+feeds_run next found = filter runs_feed (moves_along next found)
+
+-- what is run for a feed: on its slot, the feed itself, with the points of the snapshots that it was settled by
+abbrev pub run_for : Held → Opening → Move
+run_for e o = RunSlot o.slot (order_of e (cmds.Subscribe o.spec))
+
+-- ---- of a plan whose moves found so much, in a session with these limits and so many cursors and feeds open
+module _ (limits : Limits) (plan : Plan) (quiet : Bool) (count : ℕ) (found : List Found) where
+  -- it came to the feeds of a CHANGES
+  abbrev pub Comes : Type 0
+  Comes = Changing plan (setting_of limits quiet count) (map heard_of found)
+
+  abbrev pub held_by : Comes → Held
+  held_by c = held plan (setting_of limits quiet count) c.known c.read
+
+  -- what is told of the feeds that are open
+  abbrev pub told_of : (c : Comes) → List courses.Open → Answered
+  told_of c opened = answered_of (plans.feed (map (courses.arm_of (held_by c)) opened) (notes_of c.feeds) (first_items c.feeds.told opened))
+
+  -- where these are its moves
+  module _ (next : List Found → Move) where
+    -- all that was run to open feeds is these feeds in their order, each once the one before it was open
+    abbrev pub AreRunInTurn : Comes → Type 0
+    AreRunInTurn c = feeds_run next found ≡ map (run_for (held_by c)) (reached [] c.feeds.openings c.replies)
+
+    -- and each is its own term's
+    pub record RunsItsOwn : Type 0 where
+      pub changes : Comes
+      pub run : AreRunInTurn changes
+      pub own : AreOf (held_by changes) changes.arguments changes.options changes.feeds
+
+    -- a feed that it ends with: all feeds of its CHANGES were run, each is its own term's, each was opened by its answer, and arms, notes and
+    -- first items are those of just these, in their order
+    pub record EndsWithItsFeeds (arms : List Arm) (notes : List ℕ) (items : List Shown) : Type 0 where
+      pub changes : Comes
+      pub own : AreOf (held_by changes) changes.arguments changes.options changes.feeds
+      pub run : feeds_run next found ≡ map (run_for (held_by changes)) changes.feeds.openings
+      pub opened : List courses.Open
+      pub each : AreOpened changes.feeds.openings changes.replies opened
+      pub told : Feed arms notes items ≡ told_of changes opened
