@@ -134,8 +134,8 @@ abbrev pub NoOtherFeedsAreAsked : Type 0
 NoOtherFeedsAreAsked = (p : Plan) (s : Setting) (hs : List Heard) → is_asked p.term ≡ true → plan_fault p.term ≡ None
     → (feeds_asked p s hs ≡ []) ⊎ AsksForItsOwn p s hs
 
--- And so of each such move by itself: after these answers it asks for the feed of the first term that has no answer yet, with all that is its
--- own in the world of the snapshots.
+-- Each such move by itself: it asks for the feed of the first term beyond as many as answers were heard after the snapshots, whatever these are,
+-- with all that is its own in the world of the snapshots.
 abbrev pub unanswered : {A : Type 0} → List A → List Heard → Option A
 unanswered [] hs = None
 unanswered (a ∷ rest) [] = Some a

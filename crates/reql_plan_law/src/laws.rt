@@ -58,9 +58,10 @@ pub fn openings_are_theirs()
 /// Once a request for CHANGES has heard its names, the moment that its term asks for, and the snapshots of the slots that it
 /// reads, it asks for the feeds of CHANGES in their order: the first one, and each next one as its answer once the one before
 /// it is open; none after one that is refused. Each is asked of its slot with all that its opening says and the points of
-/// these snapshots. A plan asks for no other feed, whatever its moves are answered: it asks for none at all, or is such a
-/// request, and each of its feeds is its own term's, where that has no fault and stands as every term that is read. Where it
-/// ends with a feed, all feeds of its CHANGES were asked for and are open, and its arms are these, in their order.
+/// these snapshots. The rest is of a plan whose term has no fault and stands as every term that is read, whatever its moves
+/// are answered. It asks for no other feed: for none at all, or it is such a request, and each of its feeds is its own term's.
+/// Each move for a feed is of the first term beyond as many as answers were heard after the snapshots. Where it ends with a
+/// feed, all feeds of its CHANGES were asked for and are open, and its arms, notes and first items are those of just these.
 pub fn feeds_are_asked_in_turn()
     ensures feeds { FeedsAreAskedInTurn }
     ensures others { NoOtherFeedsAreAsked }
