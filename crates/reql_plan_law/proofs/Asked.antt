@@ -122,14 +122,14 @@ silent_as : (x y : List Ask × Next) → x ≡ y → Silent y → Silent x
 silent_as x y same is = subst Silent (sym same) is
 
 -- ---- the feeds of CHANGES in turn
-abbrev held_of : List Open → Feeds
+abbrev pub held_of : List Open → Feeds
 held_of os = map (λ (o : Open). (o.slot, o.feed)) os
 
-held_with : (os : List Open) (k : Open) → held_of os ++ (k.slot, k.feed) ∷ [] ≡ held_of (os ++ k ∷ [])
+pub held_with : (os : List Open) (k : Open) → held_of os ++ (k.slot, k.feed) ∷ [] ≡ held_of (os ++ k ∷ [])
 held_with [] k = refl
 held_with (o ∷ os) k = ap (λ z. (o.slot, o.feed) ∷ z) (held_with os k)
 
-among_held : (n number : ℕ) (os : List Open) → is_among n number os ≡ has_feed n number (held_of os)
+pub among_held : (n number : ℕ) (os : List Open) → is_among n number os ≡ has_feed n number (held_of os)
 among_held n number [] = refl
 among_held n number (o ∷ os) = ap (λ b. (nat_eq o.slot n && nat_eq o.feed number) || b) (among_held n number os)
 
@@ -184,17 +184,17 @@ module _ (e : Held) where
       (heard_asks before o os hs (λ k. subscribed e (before ++ k ∷ []) os (λ ks. ends (out ks))) (λ k. subscribed_asks (before ++ k ∷ []) os out hs) h)
 
   -- what is told of them, where all are open
-  abbrev told_of : Feeding → List Open → Outcome
+  abbrev pub told_of : Feeding → List Open → Outcome
   told_of f ks = feed (map (arm_of e) ks) (notes_of f) (first_items f.told ks)
 
   opens_asks : (f : Feeding) (hs : List Heard) → feeds_in (opens e f ends) hs ≡ all_for (reached [] f.openings hs)
   opens_asks f hs = subscribed_asks [] f.openings (told_of f) hs
 
   -- where it may open them
-  abbrev if_room : Bool → Feeding → Request
+  abbrev pub if_room : Bool → Feeding → Request
   if_room b f = cond b (opens e f) (refuse too_many_cursors) ends
 
-  abbrev if_wanted : Bool → Feeding → Request
+  abbrev pub if_wanted : Bool → Feeding → Request
   if_wanted b f = cond b (give unsent) (cond (has_room e.setting) (opens e f) (refuse too_many_cursors)) ends
 
 abbrev when_free : Plan → Setting → Named → Form → Bool → Request
@@ -214,7 +214,7 @@ module _ {X : Type 0} (F : Request → List Heard → X)
     sees_on r n slots at hs None more goes h = absurd (cc (h))
     sees_on r n slots at hs (Some found) more goes h = goes found h
 
-    looks_on : (r : Read) (slots : List ℕ) (seen : List Seen) → read_from ns r slots seen ≡ Some read → F (looks ns r slots on) (map looked seen ++ replies) ≡ F (on read) replies
+    pub looks_on : (r : Read) (slots : List ℕ) (seen : List Seen) → read_from ns r slots seen ≡ Some read → F (looks ns r slots on) (map looked seen ++ replies) ≡ F (on read) replies
     looks_on r [] [] h = ap (λ x. F (on x) replies) (same_read r h)
     looks_on r (n ∷ slots) (at ∷ seen) h =
         skips (look n) (λ x. seen_heard ns r n x (λ s. looks ns s slots on)) (looked at) (map looked seen ++ replies) refl
@@ -231,7 +231,7 @@ module _ {X : Type 0} (F : Request → List Heard → X)
     abbrev with_moment : ℤ → Request
     with_moment n = from (rewritten (now_rule n) f) then_read
 
-    clocked_on : (b : Bool) (moment : Option ℤ) → is_clocked b moment ≡ true → at_time moment f ≡ Ok g
+    pub clocked_on : (b : Bool) (moment : Option ℤ) → is_clocked b moment ≡ true → at_time moment f ≡ Ok g
         → F (cond b (timed p s ns f) (read p s ns f) ends) (clock moment ++ hs) ≡ F (then_read g) hs
     clocked_on true (Some n) c h =
         skips tell (λ x. moment_heard x with_moment) (told (Some n)) hs refl
@@ -243,7 +243,7 @@ module _ {X : Type 0} (F : Request → List Heard → X)
 
   -- the names
   module _ (p : Plan) (s : Setting) (ns : Named) where
-    resolved_on : (f : Form) (hs : List Heard) → resolved ns p.db p.term ≡ Ok f → leaks false f ≡ false → F (resolving p s ns ends) hs ≡ F (at_moment p s ns f ends) hs
+    pub resolved_on : (f : Form) (hs : List Heard) → resolved ns p.db p.term ≡ Ok f → leaks false f ≡ false → F (resolving p s ns ends) hs ≡ F (at_moment p s ns f ends) hs
     resolved_on f hs same free =
         ap (λ a. F (from a (λ x. when_free p s ns x (leaks false x))) hs) same
         ∙ ap (λ b. F (when_free p s ns f b) hs) free
@@ -256,7 +256,7 @@ module _ {X : Type 0} (F : Request → List Heard → X)
       ∙ ap (λ b. F (if_wanted e b f) hs) wanted
       ∙ ap (λ b. F (if_room e b f) hs) room
 
-  comes_to_feeds : (p : Plan) (s : Setting) (hs : List Heard) (c : Changing p s hs) → F (request (course p s)) hs ≡ F (opens (held p s c.known c.read) c.feeds ends) c.replies
+  pub comes_to_feeds : (p : Plan) (s : Setting) (hs : List Heard) (c : Changing p s hs) → F (request (course p s)) hs ≡ F (opens (held p s c.known c.read) c.feeds ends) c.replies
   comes_to_feeds p s hs c =
       let g : Form = operation op.Changes c.arguments c.options in
       let seen : List Heard = map looked c.seen ++ c.replies in
@@ -618,11 +618,11 @@ abbrev outcome_in : Next → Outcome
 outcome_in (answered o) = o
 outcome_in (moves q) = unsent
 
-more_after : (A : Type 0) (xs ys : List A) (x : A) → (xs ++ x ∷ []) ++ ys ≡ xs ++ (x ∷ ys)
+pub more_after : (A : Type 0) (xs ys : List A) (x : A) → (xs ++ x ∷ []) ++ ys ≡ xs ++ (x ∷ ys)
 more_after A [] ys x = refl
 more_after A (z ∷ xs) ys x = ap (λ zs. z ∷ zs) (more_after A xs ys x)
 
-nothing_after : (A : Type 0) (xs : List A) → xs ++ [] ≡ xs
+pub nothing_after : (A : Type 0) (xs : List A) → xs ++ [] ≡ xs
 nothing_after A [] = refl
 nothing_after A (x ∷ xs) = ap (λ zs. x ∷ zs) (nothing_after A xs)
 

@@ -12,5 +12,6 @@ pub mod Opens
 pub mod Unsent
 pub mod Theirs
 pub mod Asked
+pub mod Answering
 pub mod Settling
 pub mod Stacked

@@ -16,4 +16,5 @@ pub mod Follows
 pub mod Opens
 pub mod Theirs
 pub mod Asked
+pub mod Answering
 pub mod Settling

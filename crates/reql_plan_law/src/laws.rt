@@ -1,4 +1,5 @@
 // Laws of plans.
+ghost use Rattle.reql_plan_law.specs.Answering.{CrowdedFeedsAreRefused, DeniedFeedsAreClosed, FaultyFeedsAreRefused, NextFeedIsAsked, OpenFeedsAreTold};
 ghost use Rattle.reql_plan_law.specs.Asked.{EachIsOfItsTerm, FeedsAreAskedInTurn, FeedsEndWithTheirOwn, NoOtherFeedsAreAsked};
 ghost use Rattle.reql_plan_law.specs.Follows.{FeedsAreRead, LimitsAreRead, PointsAreRead, RangesAreRead};
 ghost use Rattle.reql_plan_law.specs.Minds.{PlansMind, PlansMindEachStep, UnsentOnlyWithNoreply};
@@ -67,6 +68,19 @@ pub fn feeds_are_asked_in_turn()
     ensures others { NoOtherFeedsAreAsked }
     ensures each { EachIsOfItsTerm }
     ensures ends { FeedsEndWithTheirOwn }
+{}
+
+/// A request for CHANGES that wants an answer and has heard all that it reads is answered by the fault of its feeds, where they
+/// have one; else by that too many cursors are open, where there is no room for one more. Else it asks for its feeds: the next
+/// one while all before it are open; once all are open they are its answer, with their arms, notes and first items. Where one is
+/// refused (its index is missing, its table has too many feeds, a full history or is dropped) those before it are closed in
+/// their order, and then that is the answer; where a journal failed or memory is wanted, it is at once.
+pub fn changes_are_answered()
+    ensures faulty { FaultyFeedsAreRefused }
+    ensures crowded { CrowdedFeedsAreRefused }
+    ensures asked { NextFeedIsAsked }
+    ensures opened { OpenFeedsAreTold }
+    ensures denied { DeniedFeedsAreClosed }
 {}
 
 /// What is kept of a feed's term, with the data of its arguments in their places, means what the term does, in every world in
