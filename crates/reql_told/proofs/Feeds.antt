@@ -21,18 +21,20 @@ use Rattle.reql_law.specs.declared.command.Order.{Order}
 use Rattle.reql_law.specs.declared.limits.Limits.{Limits}
 use Rattle.reql_plan_law.specs.declared.parts.Opening.{Opening}
 use Rattle.reql_plan_law.specs.declared.parts.Plan.{Plan}
+use Rattle.reql_plan_law.specs.Answering.{closes_next}
 use Rattle.reql_plan_law.specs.Asked.{move_in, asks_along, opens_feed, asks_feed, feeds_asked, asked_for, AsksForItsOwn, EndsWithItsOwn}
-use Rattle.reql_plan_law.specs.Course.{plan_next}
+use Rattle.reql_plan_law.specs.Course.{Open, plan_next}
 use Rattle.reql_plan_law.specs.Held.{Held}
 use Rattle.reql_plan_law.specs.Move as plans
 use Rattle.reql_plan_law.specs.Opens.{is_asked}
 use Rattle.reql_plan_law.specs.Request as requests
+use Rattle.reql_plan_law.proofs.Answering.{faulty_feeds_are_refused, crowded_feeds_are_refused, next_feed_is_asked, open_feeds_are_told, denied_feeds_are_closed}
 use Rattle.reql_plan_law.proofs.Asked.{feeds_are_asked_in_turn, no_other_feeds_are_asked, each_is_of_its_term, feeds_end_with_their_own}
 use Rattle.reql_plan_law.proofs.Opens.{asked_feeds_are_read}
 use Rattle.reql_story.specs.Requests.{Arm, Shown, Answered, Feed, Move, Start, RunSlot, Ends, Found}
 use Rattle.reql_told.specs.Asking.{plan_of, planned, refused, asked_by, asked}
-use Rattle.reql_told.specs.Feeds.{moves_along, runs_feed, feeds_run, run_for, held_by, RunsItsOwn, EndsWithItsFeeds}
-use Rattle.reql_told.specs.Laws.{AllFeedsAreRead, AllFeedsAreTheirs, AllFeedsAreAskedInTurn, AllRunNoOtherFeeds, AllFeedsEndWithTheirOwn}
+use Rattle.reql_told.specs.Feeds.{moves_along, runs_feed, feeds_run, run_for, closes_move, held_by, RunsItsOwn, EndsWithItsFeeds}
+use Rattle.reql_told.specs.Laws.{AllFeedsAreRead, AllFeedsAreTheirs, AllFeedsAreAskedInTurn, AllRunNoOtherFeeds, AllFeedsEndWithTheirOwn, AllFaultyFeedsAreRefused, AllCrowdedFeedsAreRefused, AllNextFeedsAreRun, AllOpenFeedsAreTold, AllDeniedFeedsAreClosed}
 use Rattle.reql_told.specs.Told.{heard_of, fault_of, answered_of, asked_of, move_of, setting_of, moves_of}
 use Rattle.reql_told.proofs.Once.{given, inside, bound, chained, Rises, AllRise, json_rises, asked_of_data}
 
@@ -311,3 +313,30 @@ all_feeds_end_with_their_own key limits body noreply plan quiet count found arms
     let told = of_end (plan_next plan (setting_of limits quiet count) hs) arms notes items ends in
     ends_with_its_feeds limits plan quiet count found arms notes items (plans.feed told.0 told.1 told.2) told.4
     (feeds_end_with_their_own plan (setting_of limits quiet count) hs told.0 told.1 told.2 good.0 good.1 told.3)
+
+-- ---- what a CHANGES comes to
+closes_so : (e : Held) (why : plans.Stop) (ks : List Open) (hs : List plans.Heard) → move_of (closes_next e why ks hs) ≡ closes_move e why ks hs
+closes_so e why [] hs = refl
+closes_so e why (k ∷ ks) [] = refl
+closes_so e why (k ∷ ks) (h ∷ hs) = closes_so e why ks hs
+
+pub all_faulty_feeds_are_refused : AllFaultyFeedsAreRefused
+all_faulty_feeds_are_refused key limits body noreply plan quiet count found is c why h =
+    ap move_of (faulty_feeds_are_refused plan (setting_of limits quiet count) (map heard_of found) c why h)
+
+pub all_crowded_feeds_are_refused : AllCrowdedFeedsAreRefused
+all_crowded_feeds_are_refused key limits body noreply plan quiet count found is c x h full =
+    ap move_of (crowded_feeds_are_refused plan (setting_of limits quiet count) (map heard_of found) c x h full)
+
+pub all_next_feeds_are_run : AllNextFeedsAreRun
+all_next_feeds_are_run key limits body noreply plan quiet count found is c before o behind opened h each =
+    ap move_of (next_feed_is_asked plan (setting_of limits quiet count) (map heard_of found) c before o behind opened h each)
+
+pub all_open_feeds_are_told : AllOpenFeedsAreTold
+all_open_feeds_are_told key limits body noreply plan quiet count found is c opened each =
+    ap move_of (open_feeds_are_told plan (setting_of limits quiet count) (map heard_of found) c opened each)
+
+pub all_denied_feeds_are_closed : AllDeniedFeedsAreClosed
+all_denied_feeds_are_closed key limits body noreply plan quiet count found is c d =
+    ap move_of (denied_feeds_are_closed plan (setting_of limits quiet count) (map heard_of found) c d)
+    ∙ closes_so (held_by limits plan quiet count found c) d.denial.why d.denial.closes d.rest

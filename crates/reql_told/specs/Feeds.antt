@@ -1,17 +1,20 @@
 -- All that a session is asked to run to open feeds for a plan, by what the plan's moves found, and what it is then told of them, in the session's words.
 use Rattle.std.specs.Prelude.{◌≡◌, ℕ, List, [], ◌∷◌, map, filter, Bool, false}
+use Rattle.reql_datum.specs.Answer.{Answer}
 use Rattle.reql_law.specs.declared.command.Cmd.TheVariants as cmds
 use Rattle.reql_law.specs.declared.limits.Limits.{Limits}
 use Rattle.reql_plan_law.specs.declared.parts.Opening.{Opening}
 use Rattle.reql_plan_law.specs.declared.parts.Plan.{Plan}
+use Rattle.reql_plan_law.specs.Answering.{AtChanges, Denied}
 use Rattle.reql_plan_law.specs.Asked.{opens_feed, Changing, reached, AreOpened}
 use Rattle.reql_plan_law.specs.Course as courses
 use Rattle.reql_plan_law.specs.Course.{order_of, first_items, notes_of, held}
+use Rattle.reql_plan_law.specs.Feeding.{Feeding, feeding}
 use Rattle.reql_plan_law.specs.Held.{Held}
 use Rattle.reql_plan_law.specs.Move as plans
 use Rattle.reql_plan_law.specs.Theirs.{AreOf}
-use Rattle.reql_story.specs.Requests.{Arm, Shown, Answered, Feed, Move, RunSlot, Found}
-use Rattle.reql_told.specs.Told.{heard_of, setting_of, answered_of}
+use Rattle.reql_story.specs.Requests.{Arm, Shown, Answered, Feed, Move, RunSlot, Ends, Found}
+use Rattle.reql_told.specs.Told.{heard_of, setting_of, stop_of, answered_of}
 
 -- ---- the moves that open a feed
 
@@ -31,6 +34,12 @@ feeds_run next found = filter runs_feed (moves_along next found)
 abbrev pub run_for : Held → Opening → Move
 run_for e o = RunSlot o.slot (order_of e (cmds.Subscribe o.spec))
 
+-- where one is not opened, what comes next by what was heard since: these are closed in their order, and then why is told
+abbrev pub closes_move : Held → plans.Stop → List courses.Open → List plans.Heard → Move
+closes_move e why [] hs = Ends (stop_of why)
+closes_move e why (k ∷ ks) [] = RunSlot k.slot (order_of e (cmds.Unsubscribe k.feed))
+closes_move e why (k ∷ ks) (h ∷ hs) = closes_move e why ks hs
+
 -- ---- of a plan whose moves found so much, in a session with these limits and so many cursors and feeds open
 module _ (limits : Limits) (plan : Plan) (quiet : Bool) (count : ℕ) (found : List Found) where
   -- it came to the feeds of a CHANGES
@@ -39,6 +48,17 @@ module _ (limits : Limits) (plan : Plan) (quiet : Bool) (count : ℕ) (found : L
 
   abbrev pub held_by : Comes → Held
   held_by c = held plan (setting_of limits quiet count) c.known c.read
+
+  -- the feed that is not opened
+  abbrev pub IsDenied : Comes → Type 0
+  IsDenied c = Denied (held_by c) c.feeds.openings c.replies
+
+  -- or it came to a CHANGES that wants an answer, whether its feeds can be read or not
+  abbrev pub ComesToChanges : Type 0
+  ComesToChanges = AtChanges plan (setting_of limits quiet count) (map heard_of found)
+
+  abbrev pub feeds_at : ComesToChanges → Answer Feeding
+  feeds_at c = feeding (held plan (setting_of limits quiet count) c.known c.read) c.arguments c.options
 
   -- what is told of the feeds that are open
   abbrev pub told_of : (c : Comes) → List courses.Open → Answered

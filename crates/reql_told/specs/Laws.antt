@@ -1,5 +1,6 @@
 -- What is so of sessions that are told of these plans, whatever their key and their limits.
-use Rattle.std.specs.Prelude.{◌≡◌, ℕ, List, [], map, Bool, min, ◌⊎◌}
+use Rattle.std.specs.Prelude.{◌≡◌, ℕ, nat_lt, List, [], ◌∷◌, ◌++◌, map, Bool, false, min, ◌⊎◌, Ok, Err}
+use Rattle.reql_datum.specs.Answer.{Reason}
 use Rattle.reql_admin.specs.Server.{server}
 use Rattle.reql_json.specs.Showing.{shown}
 use Rattle.reql_hall.specs.Shares.{IsKept}
@@ -7,9 +8,14 @@ use Rattle.reql_law.specs.declared.command.Cmd.TheVariants as cmds
 use Rattle.reql_law.specs.declared.command.FeedSpec.{FeedSpec}
 use Rattle.reql_law.specs.declared.command.Order.{Order}
 use Rattle.reql_law.specs.declared.limits.Limits.{Limits}
+use Rattle.reql_plan_law.specs.declared.parts.Opening.{Opening}
 use Rattle.reql_plan_law.specs.declared.parts.Plan.{Plan}
+use Rattle.reql_plan_law.specs.Answering.{AreOpenedNew}
 use Rattle.reql_plan_law.specs.Asked.{IsOfItsTerm}
+use Rattle.reql_plan_law.specs.Course.{Open}
+use Rattle.reql_plan_law.specs.Feeding.{Feeding}
 use Rattle.reql_plan_law.specs.Follows.{IsRead}
+use Rattle.reql_plan_law.specs.Texts.{too_many_cursors}
 use Rattle.reql_story.specs.Answering.{EachIsAnswered}
 use Rattle.reql_story.specs.Waiting.{NothingWasThere}
 use Rattle.reql_story.specs.Bodies.{server_info}
@@ -18,8 +24,8 @@ use Rattle.reql_story.specs.Laws as story
 use Rattle.reql_story.specs.Minding.{PlansMind}
 use Rattle.reql_story.specs.Requests.{Arm, Shown, Feed, Start, RunSlot, Ends, Found}
 use Rattle.reql_story.specs.Tasks.{Talk, batch_size}
-use Rattle.reql_told.specs.Feeds.{feeds_run, Comes, AreRunInTurn, RunsItsOwn, EndsWithItsFeeds}
-use Rattle.reql_told.specs.Told.{talk, comes_by, setting_of, heard_of}
+use Rattle.reql_told.specs.Feeds.{feeds_run, run_for, closes_move, Comes, held_by, IsDenied, ComesToChanges, feeds_at, told_of, AreRunInTurn, RunsItsOwn, EndsWithItsFeeds}
+use Rattle.reql_told.specs.Told.{talk, comes_by, setting_of, heard_of, fault_of}
 
 -- plans mind their feeds
 abbrev pub PlansAreTold : Type 0
@@ -58,6 +64,36 @@ AllFeedsEndWithTheirOwn = (key : List ℕ) (limits : Limits) (body : List ℕ) (
     (arms : List Arm) (notes : List ℕ) (items : List Shown)
     → (talk key limits).asked body ≡ Start noreply plan → (talk key limits).next plan quiet count found ≡ Ends (Feed arms notes items)
     → EndsWithItsFeeds limits plan quiet count found ((talk key limits).next plan quiet count) arms notes items
+
+-- What the CHANGES of a body comes to. The fault of its feeds, where they have one, is its answer; else it is refused where as many cursors and feeds
+-- are open as may be.
+abbrev pub AllFaultyFeedsAreRefused : Type 0
+AllFaultyFeedsAreRefused = (key : List ℕ) (limits : Limits) (body : List ℕ) (noreply : Bool) (plan : Plan) (quiet : Bool) (count : ℕ) (found : List Found)
+    → (talk key limits).asked body ≡ Start noreply plan → (c : ComesToChanges limits plan quiet count found) (why : Reason) → feeds_at limits plan quiet count found c ≡ Err why
+    → (talk key limits).next plan quiet count found ≡ Ends (fault_of why)
+
+abbrev pub AllCrowdedFeedsAreRefused : Type 0
+AllCrowdedFeedsAreRefused = (key : List ℕ) (limits : Limits) (body : List ℕ) (noreply : Bool) (plan : Plan) (quiet : Bool) (count : ℕ) (found : List Found)
+    → (talk key limits).asked body ≡ Start noreply plan → (c : ComesToChanges limits plan quiet count found) (x : Feeding) → feeds_at limits plan quiet count found c ≡ Ok x
+    → nat_lt count limits.cursors ≡ false → (talk key limits).next plan quiet count found ≡ Ends (fault_of too_many_cursors)
+
+-- While the feeds before it are open the next one is run, and once all are open they are the answer.
+abbrev pub AllNextFeedsAreRun : Type 0
+AllNextFeedsAreRun = (key : List ℕ) (limits : Limits) (body : List ℕ) (noreply : Bool) (plan : Plan) (quiet : Bool) (count : ℕ) (found : List Found)
+    → (talk key limits).asked body ≡ Start noreply plan → (c : Comes limits plan quiet count found) (before : List Opening) (o : Opening) (behind : List Opening) (opened : List Open)
+    → c.feeds.openings ≡ before ++ (o ∷ behind) → AreOpenedNew [] before c.replies opened
+    → (talk key limits).next plan quiet count found ≡ run_for (held_by limits plan quiet count found c) o
+
+abbrev pub AllOpenFeedsAreTold : Type 0
+AllOpenFeedsAreTold = (key : List ℕ) (limits : Limits) (body : List ℕ) (noreply : Bool) (plan : Plan) (quiet : Bool) (count : ℕ) (found : List Found)
+    → (talk key limits).asked body ≡ Start noreply plan → (c : Comes limits plan quiet count found) (opened : List Open) → AreOpenedNew [] c.feeds.openings c.replies opened
+    → (talk key limits).next plan quiet count found ≡ Ends (told_of limits plan quiet count found c opened)
+
+-- Where one is not opened those before it are closed in their order, and then the refusal is the answer.
+abbrev pub AllDeniedFeedsAreClosed : Type 0
+AllDeniedFeedsAreClosed = (key : List ℕ) (limits : Limits) (body : List ℕ) (noreply : Bool) (plan : Plan) (quiet : Bool) (count : ℕ) (found : List Found)
+    → (talk key limits).asked body ≡ Start noreply plan → (c : Comes limits plan quiet count found) (d : IsDenied limits plan quiet count found c)
+    → (talk key limits).next plan quiet count found ≡ closes_move (held_by limits plan quiet count found c) d.denial.why d.denial.closes d.rest
 
 -- a session cuts a plan's answers by the batch that the plan counts by
 abbrev pub BatchesAgree : Type 0

@@ -1,5 +1,5 @@
 // Laws of sessions that plan ReQL.
-ghost use Rattle.reql_told.specs.Laws.{PlansAreTold, BatchesAgree, InfoIsServers, AllInOrder, AllFramesHandled, AllWornLate, AllFirstFailed, AllAreAnswered, AllWaitForNothing, AllValidClose, AllKept, AllOneMore, AllLearning, AllNothingLeft, AllFeedsHold, AllSkipsAreSent, AllFeedsAreRead, AllFeedsAreTheirs, AllFeedsAreAskedInTurn, AllRunNoOtherFeeds, AllFeedsEndWithTheirOwn};
+ghost use Rattle.reql_told.specs.Laws.{PlansAreTold, BatchesAgree, InfoIsServers, AllInOrder, AllFramesHandled, AllWornLate, AllFirstFailed, AllAreAnswered, AllWaitForNothing, AllValidClose, AllKept, AllOneMore, AllLearning, AllNothingLeft, AllFeedsHold, AllSkipsAreSent, AllFeedsAreRead, AllFeedsAreTheirs, AllFeedsAreAskedInTurn, AllRunNoOtherFeeds, AllFeedsEndWithTheirOwn, AllFaultyFeedsAreRefused, AllCrowdedFeedsAreRefused, AllNextFeedsAreRun, AllOpenFeedsAreTold, AllDeniedFeedsAreClosed};
 ghost use Rattle.reql_told.specs.Refusing.{FirstRefusal, ShapeRefusal};
 
 /// Plans, as a session is told of them, take from no feed, close only what they opened and is open still, and tell of
@@ -22,6 +22,19 @@ pub fn feeds_are_read()
     ensures turn { AllFeedsAreAskedInTurn }
     ensures others { AllRunNoOtherFeeds }
     ensures ends { AllFeedsEndWithTheirOwn }
+{}
+
+/// A body whose plan came to a CHANGES that wants an answer is answered by the fault of its feeds, where they have one; else by
+/// that too many cursors are open, where as many are as may be. Else its feeds are run: the next one while all before it are
+/// open; once all are open they are the answer. Where one is not opened, since its index is missing or its table has too many
+/// feeds, a full history or was dropped, those before it are closed in their order and then that is the answer; where a journal
+/// failed or memory is wanted, it is at once.
+pub fn changes_are_answered()
+    ensures faulty { AllFaultyFeedsAreRefused }
+    ensures crowded { AllCrowdedFeedsAreRefused }
+    ensures asked { AllNextFeedsAreRun }
+    ensures opened { AllOpenFeedsAreTold }
+    ensures denied { AllDeniedFeedsAreClosed }
 {}
 
 /// A START is refused by the first of its refusals before anything is looked at: that its token has something open, the

@@ -5,6 +5,9 @@ mod laws;
 mod plans;
 mod rows;
 
-pub use laws::{feeds_are_read, first_refusal, plans_are_told, server_is_told, sessions_hold};
+pub use laws::{
+    changes_are_answered, feeds_are_read, first_refusal, plans_are_told, server_is_told,
+    sessions_hold,
+};
 pub use plans::QueryPlans;
 pub use rows::worked_rows;
