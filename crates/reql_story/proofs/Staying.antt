@@ -150,7 +150,7 @@ module _ (most : ℕ) where
   Vain s = IsNothing s ⊎ IsBare s
 
   pub took_nothing : (t : DocumentTable) (by number max : ℕ) (f : Feed Held Plain) → find_feed by number t.feeds ≡ Some f → Vain (answer (feeding most) t by (known.Take number max))
-      → (f.skipped ≡ 0) × (1 ≤ max → ((f.queue ≡ []) × (t.shut ≡ false)) ⊎ (((feeding most).squashes f.kept ≡ true) × ((feeding most).net f.kept f.queue ≡ [])))
+      → (f.skipped ≡ 0) × (1 ≤ max → ((f.queue ≡ []) × (t.shut ≡ false)) ⊎ ((f.queue ≡ [] → ⊥) × ((feeding most).squashes f.kept ≡ true) × ((feeding most).net f.kept f.queue ≡ [])))
   took_nothing t by number max f e v = given (subst (λ o. Vain (takes (feeding most) t number max o)) e (room (one_more (feeding most) (effect (feeding most) t by (known.Take number max))) (takes (feeding most) t number max (find_feed by number t.feeds)) v))
     where
       room : (u : DocumentTable) (s : Said Summary Plain) → Vain (if_room (feeding most) u s) → Vain s
@@ -168,13 +168,13 @@ module _ (most : ℕ) where
       none_there : f.skipped ≡ 0 → f.queue ≡ [] → has_something f ≡ false
       none_there h q = (λ i. not (nat_eq (h i) 0) || not (is_none_queued (q i))) ∙ ap (λ b. not b || false) (eq-eqb 0 0 refl)
 
-      netted : has_something f ≡ true → f.skipped ≡ 0 → given_by (feeding most) max f ≡ [] → 1 ≤ max → ((feeding most).squashes f.kept ≡ true) × ((feeding most).net f.kept f.queue ≡ [])
-      netted has h g le = split ((feeding most).squashes f.kept) (λ b. (feeding most).squashes f.kept ≡ b → cond b ((feeding most).net f.kept f.queue) (take max f.queue) ≡ [] → ((feeding most).squashes f.kept ≡ true) × ((feeding most).net f.kept f.queue ≡ []))
-          (λ _ is z. (is, z)) (λ _ is z. absurd (true≢false (sym has ∙ none_there h (all_of max f.queue le z)))) refl g
+      netted : has_something f ≡ true → f.skipped ≡ 0 → given_by (feeding most) max f ≡ [] → 1 ≤ max → (f.queue ≡ [] → ⊥) × ((feeding most).squashes f.kept ≡ true) × ((feeding most).net f.kept f.queue ≡ [])
+      netted has h g le = split ((feeding most).squashes f.kept) (λ b. (feeding most).squashes f.kept ≡ b → cond b ((feeding most).net f.kept f.queue) (take max f.queue) ≡ [] → (f.queue ≡ [] → ⊥) × ((feeding most).squashes f.kept ≡ true) × ((feeding most).net f.kept f.queue ≡ []))
+          (λ _ is z. (λ q. true≢false (sym has ∙ none_there h q), is, z)) (λ _ is z. absurd (true≢false (sym has ∙ none_there h (all_of max f.queue le z)))) refl g
 
-      given : Vain (takes (feeding most) t number max (Some f)) → (f.skipped ≡ 0) × (1 ≤ max → ((f.queue ≡ []) × (t.shut ≡ false)) ⊎ (((feeding most).squashes f.kept ≡ true) × ((feeding most).net f.kept f.queue ≡ [])))
+      given : Vain (takes (feeding most) t number max (Some f)) → (f.skipped ≡ 0) × (1 ≤ max → ((f.queue ≡ []) × (t.shut ≡ false)) ⊎ ((f.queue ≡ [] → ⊥) × ((feeding most).squashes f.kept ≡ true) × ((feeding most).net f.kept f.queue ≡ [])))
       given h = split (has_something f) (λ b. has_something f ≡ b → Vain (cond b (said.Batch f.skipped f.last (given_by (feeding most) max f)) (unless_shut (feeding most) t said.Nothing))
-          → (f.skipped ≡ 0) × (1 ≤ max → ((f.queue ≡ []) × (t.shut ≡ false)) ⊎ (((feeding most).squashes f.kept ≡ true) × ((feeding most).net f.kept f.queue ≡ []))))
+          → (f.skipped ≡ 0) × (1 ≤ max → ((f.queue ≡ []) × (t.shut ≡ false)) ⊎ ((f.queue ≡ [] → ⊥) × ((feeding most).squashes f.kept ≡ true) × ((feeding most).net f.kept f.queue ≡ []))))
           (λ _ e g. elim g [ inl x ↦ absurd x | inr x ↦ (x.0, λ le. inr (netted e x.0 x.1 le)) ])
           (λ _ e g. let n = found_nothing f e in (n.0, λ le. inl (n.1, empty t.shut refl g)))
           refl h

@@ -38,12 +38,13 @@ FoundNothing max (arm ∷ arms) es = (place : ℕ) × (reply : Told) × (kept : 
     × ((IsNothing reply.said × FoundNothing max arms more) ⊎ (IsBare reply.said × (more ≡ [])))
 
 -- In a table a feed of a user has nothing for a Take of so many: it is open, nothing was skipped since the last Take, and nothing
--- is queued while the table is there; or, where it squashes, the net of all that is queued is nothing.
+-- is queued while the table is there; or, where it squashes, something is queued of which the net is nothing. Of a Take of no item
+-- at all it says nothing of the queue.
 pub record HasNothing (s : State) (by number max : ℕ) : Type 0 where
   pub feed : Feed Held Plain
   pub found : find_feed by number s.table.feeds ≡ Some feed
   pub skipped : feed.skipped ≡ 0
-  pub none : 1 ≤ max → ((feed.queue ≡ []) × (s.table.shut ≡ false)) ⊎ (((feeding s.most).squashes feed.kept ≡ true) × ((feeding s.most).net feed.kept feed.queue ≡ []))
+  pub none : 1 ≤ max → ((feed.queue ≡ []) × (s.table.shut ≡ false)) ⊎ ((feed.queue ≡ [] → ⊥) × ((feeding s.most).squashes feed.kept ≡ true) × ((feeding s.most).net feed.kept feed.queue ≡ []))
 
 -- the table of a slot at a place of the history that a desk has seen of it
 abbrev pub table_at : DeskSeen → DeskShare → ℕ → ℕ → State
