@@ -1,11 +1,11 @@
 pub mod Answering
-pub mod Batched
 pub mod Closings
 pub mod Counts
 pub mod Feeding
 pub mod Fronts
 pub mod Going
 pub mod Idling
+pub mod Opened
 pub mod Orders
 pub mod Overs
 pub mod Rests

@@ -19,7 +19,7 @@ use Rattle.reql_story.specs.Books.{Cursor, Open, Books, has_token, without, curs
 use Rattle.reql_story.specs.Tasks.{Talk, Firm, Stops, Drops, Settled, Task, Planning, Visiting, Telling, Closing, Next, done, at, only_tell, close, wanted, denied, told, stop_feed, stop, is_long, cut, tell, comes_to, continue_cursor, continue_left, continue_feed, continue_on, visit_feed, visit, refuse, begin, takes_up, next_arm, batch_of, gone, took_said, took, ran, found_more, Runs, Asks, batch_size, is_empty, skipped_item, change_items, cut_to, fitted, others, arms_denied, take_order}
 use Rattle.reql_story.specs.Session.{Event, Turn, Visit, Greeted, Begin, Heard, Lost, Quiet, Finish, Broken, Long, Wear, Poor, On, OnNames, Dice, Clock, Come, Say, Want, Doing, Rest, Visits, Busy, Leaving, Mach, fresh, Step, Run, doing_next, goes_on, Plans, PlanDenied, LeavesArm, turns, turns_of}
 use Rattle.reql_story.specs.Waiting.{IsNothing, IsBare, FoundNothing, IsTakenUp, EndsInVain, StartsToWait, StaysWaiting, WaitsInVain, WaitsOn}
-use Rattle.reql_story.proofs.Batched.{batches}
+use Rattle.reql_story.proofs.Opened.{its_plan}
 use Rattle.reql_story.proofs.Shelves.{or_true, found_token}
 
 either : {A : Type 0} (P : A → Type 0) (x : Bool) (y z : A) → (x ≡ true → P y) → (x ≡ false → P z) → P (cond x y z)
@@ -322,12 +322,12 @@ module _ {PL : Type 0} (k : Talk PL) where
         begins = x.begins;
         feed = x.feed;
         its = x.its;
-        batch = batches k x.before x.start x.led u x.feed x.its;
         left = x.left;
         found = x.found (taken ∷ []) h;
         run = run_more x.start m n (x.first ∷ x.takes) taken x.run s;
         waits = w;
       };
+      opened = its_plan k x.before x.start x.led u x.feed x.its;
     }
 
     come : (arms : List Arm) (x : Midst es m m.books u (arm ∷ arms)) → slot ≡ arm.slot → order ≡ take_order arm.feed x.feed.batch → IsNothing reply.said → Comes (P es m n taken) (W es m n taken) u arms

@@ -8,6 +8,7 @@ pub mod Minding
 pub mod Worlds
 pub mod Laws
 pub mod Answering
+pub mod Opened
 pub mod Waiting
 pub mod Sample
 pub mod Worked

@@ -1,5 +1,5 @@
 -- Why a CONTINUE waits: it asked its feed for all that there may be for it, and was told of nothing.
-use Rattle.std.specs.Prelude.{◌≡◌, ◌⊎◌, ◌≤◌, ℕ, Bool, true, false, List, [], ◌∷◌, ◌++◌, take, Some}
+use Rattle.std.specs.Prelude.{◌≡◌, ◌⊎◌, ◌≤◌, ℕ, true, false, List, [], ◌∷◌, ◌++◌, take, Some}
 use Rattle.std.specs.List.{AllByRecursion}
 use Rattle.reql_datum.specs.Plain.{Plain}
 use Rattle.reql_shared.specs.Acts.{Ran}
@@ -12,9 +12,10 @@ use Rattle.reql_law.specs.Machine.{State, machine}
 use Rattle.reql_law.specs.Replies.{Answered as Told}
 use Rattle.reql_law.specs.Table.{Held, feeding}
 use Rattle.reql_law.specs.declared.reply.Saved.{Saved}
-use Rattle.reql_story.specs.Requests.{Arm, Start, Continue}
+use Rattle.reql_story.specs.Requests.{Arm, Continue}
 use Rattle.reql_story.specs.Books.{Open, has_token, feed_of}
-use Rattle.reql_story.specs.Tasks.{Talk, batch_size, take_order}
+use Rattle.reql_story.specs.Tasks.{Talk, take_order}
+use Rattle.reql_story.specs.Opened.{IsOpened}
 use Rattle.reql_story.specs.Session.{Event, Visit, Begin, On, Visits, Mach, fresh, Step, Run, turns}
 use Rattle.reql_story.specs.Explained.{DeskShare, DeskSeen, Life, ExplainedBy}
 
@@ -62,10 +63,6 @@ module _ {PL : Type 0} (k : Talk PL) where
   IsTakenUp token m (Begin frame true) = (frame.token ≡ token) × (k.asked frame.body ≡ Continue)
   IsTakenUp token m e = ⊥
 
-  -- the size of the batches of a plan that a body asks for
-  abbrev pub IsBatch : ℕ → Type 0
-  IsBatch n = (body : List ℕ) × (noreply : Bool) × (plan : PL) × (k.asked body ≡ Start noreply plan) × (n ≡ batch_size k plan)
-
   -- A CONTINUE asked in vain: from where it is taken up, or visited, to where it waits. Its feed is open, no item of its opening, no
   -- state, skip or change is left of what was taken before, and the Takes of its arms, each of a batch at most, found nothing.
   pub record AsksInVain (token : ℕ) (m : Mach PL) (es : List Event) (n : Mach PL) : Type 0 where
@@ -75,7 +72,6 @@ module _ {PL : Type 0} (k : Talk PL) where
     pub begins : IsTakenUp token m first
     pub feed : Open
     pub its : feed_of token m.books.feeds ≡ Some feed
-    pub batch : IsBatch feed.batch
     pub left : feed.left ≡ []
     pub found : FoundNothing feed.batch feed.arms takes
     pub run : Run k m es n
@@ -89,6 +85,7 @@ module _ {PL : Type 0} (k : Talk PL) where
     pub events : es ≡ before ++ asking
     pub led : Run k fresh before start
     pub asks : AsksInVain token start asking m
+    pub opened : IsOpened k asks.feed before
 
   -- A token comes to wait only by a step that is the last one of its CONTINUE's asking in vain. So no CONTINUE waits that wasn't
   -- asked for, nor one for which something is left, nor one for which a Take found items, a skip, a dropped table or a full

@@ -3,6 +3,7 @@ ghost use Rattle.reql_hall.specs.Shares.{IsKept};
 ghost use Rattle.reql_story.specs.Answering.{EachIsAnswered};
 ghost use Rattle.reql_story.specs.Explained.{ExplainedBy};
 ghost use Rattle.reql_story.specs.Laws.{InOrder, FramesHandled, WornLate, FirstFailed, ValidCloses, OneMore, Learning, NothingLeft, FeedsHold, SkipsAreSent};
+ghost use Rattle.reql_story.specs.Opened.{EachIsOpened};
 ghost use Rattle.reql_story.specs.Waiting.{StartsToWait, WaitsOn, NothingWasThere};
 
 use crate::planning::Planning;
@@ -38,6 +39,12 @@ pub fn first_failed<F: Planning>()
 /// send failed no more were said than that.
 pub fn each_is_answered<F: Planning>()
     ensures { (f : F) → EachIsAnswered (F.talk f) }
+{}
+
+/// Each feed that a session has open is that of a START of its own token, which had nothing open then: the plan that its body
+/// asked for came, by what it found, to its end with just the feed's arms and notes, and the feed's batches have that plan's size.
+pub fn each_is_opened<F: Planning>()
+    ensures { (f : F) → EachIsOpened (F.talk f) }
 {}
 
 /// A CONTINUE comes to wait only where nothing was there for it: it was taken up, or visited, with nothing of its feed left to

@@ -12,7 +12,7 @@ mod sample;
 
 pub use end::End;
 pub use laws::{
-    each_is_answered, feeds_hold, first_failed, frames_handled, in_order, joined, kept,
+    each_is_answered, each_is_opened, feeds_hold, first_failed, frames_handled, in_order, joined, kept,
     skips_are_sent, starts_to_wait, valid_closes, worn_late,
 };
 pub use planning::Planning;
