@@ -1,5 +1,6 @@
 pub mod Answering
 pub mod Closings
+pub mod Continuing
 pub mod Counts
 pub mod Feeding
 pub mod Fronts

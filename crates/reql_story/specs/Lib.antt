@@ -10,5 +10,6 @@ pub mod Laws
 pub mod Answering
 pub mod Opened
 pub mod Waiting
+pub mod Continuing
 pub mod Sample
 pub mod Worked

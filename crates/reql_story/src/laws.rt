@@ -1,6 +1,7 @@
 // Laws of explained sessions.
 ghost use Rattle.reql_hall.specs.Shares.{IsKept};
 ghost use Rattle.reql_story.specs.Answering.{EachIsAnswered};
+ghost use Rattle.reql_story.specs.Continuing.{EachContinues};
 ghost use Rattle.reql_story.specs.Explained.{ExplainedBy};
 ghost use Rattle.reql_story.specs.Laws.{InOrder, FramesHandled, WornLate, FirstFailed, ValidCloses, OneMore, Learning, NothingLeft, FeedsHold, SkipsAreSent};
 ghost use Rattle.reql_story.specs.Opened.{EachIsOpened};
@@ -56,6 +57,14 @@ pub fn starts_to_wait<F: Planning>()
     ensures starts { (f : F) → StartsToWait (F.talk f) }
     ensures goes_on { (f : F) → WaitsOn (F.talk f) }
     ensures for_nothing { (f : F) → NothingWasThere (F.talk f) }
+{}
+
+/// Where a CONTINUE on an open feed is taken up, or visited, the next answer, with no turn, visit or frame before it, has its
+/// token. It tells of what was left of the feed, or where nothing was left of what a Take of one of its arms gave, of an item at
+/// least where batches have one; or it is the fault of such an answer that is too long, of a table of which a Take was told that
+/// it was dropped, or of a history of which one was told that it is full; or INTERNAL, where memory was wanted.
+pub fn each_continues<F: Planning>()
+    ensures { (f : F) → EachContinues (F.talk f) }
 {}
 
 /// What a session was given, with more to come only where its input wasn't over, is valid where it is nothing, or a

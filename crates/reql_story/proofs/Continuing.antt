@@ -1,0 +1,358 @@
+-- What a CONTINUE on a feed is answered: from where it is taken up, or visited, to its answer.
+use Rattle.std.proofs.Common.{◌≡◌, ◌≤◌, ◌-◌, inl, inr, ℕ, zero, suc, Bool, true, false, true≢false, cond, List, [], ◌∷◌, ◌++◌, take, drop, length, Option, Some, None, refl, sym, ap, subst, ◌∙◌, arith, append_assoc, append-nil, length-append}
+use Rattle.std.specs.List.{AllByRecursion}
+use Rattle.std.proofs.lemmas.Bool.{eqb-true}
+use Rattle.reql_table_machine.specs.declared.command.Said.{Said}
+use Rattle.reql_table_machine.specs.declared.command.Said.TheVariants as said_as
+use Rattle.reql_datum.specs.Plain.{Plain}
+use Rattle.reql_datum.specs.declared.point.Point.{Point}
+use Rattle.reql_answer.specs.Body.{Stamped}
+use Rattle.reql_shared.specs.Acts.{Ran, Looked, Denied}
+use Rattle.reql_law.specs.Replies.{Answered as Told}
+use Rattle.reql_law.specs.declared.command.Cmd.{Cmd}
+use Rattle.reql_law.specs.declared.command.Order.{Order}
+use Rattle.reql_law.specs.declared.reply.Saved.{Saved}
+use Rattle.reql_write_law.specs.declared.command.Summary.{Summary}
+use Rattle.reql_story.specs.Requests.{Continue, Arm, Shown, Move, Found, Answer, Client, Internal, Batch, stamped}
+use Rattle.reql_story.specs.Books.{Open, Books, feed_of, closed, with_left, saw_names}
+use Rattle.reql_story.specs.Bodies.{full, at_wait}
+use Rattle.reql_story.specs.Tasks.{Talk, Firm, Stops, Drops, Settled, Task, Planning, Visiting, Telling, Closing, Next, at, close, wanted, denied, is_long, cut, cut_to, fitted, tell, continue_left, continue_feed, continue_on, visit_feed, begin, takes_up, next_arm, batch_of, gone, took_said, took, ran, Runs, Asks, is_empty, skipped_item, change_items, others, take_order, tell_now}
+use Rattle.reql_story.specs.Session.{Event, Turn, Visit, Greeted, Begin, Heard, Lost, Quiet, Finish, Broken, Long, Wear, Poor, On, OnNames, Dice, Clock, Come, Say, Want, Doing, Rest, Visits, Busy, Leaving, Mach, Step, Run, doing_next, goes_on, Plans, PlanDenied, LeavesArm}
+use Rattle.reql_story.specs.Waiting.{IsTakenUp}
+use Rattle.reql_story.specs.Continuing.{IsWithin, Took, TookArm, IsWanting, IsTaken, TellsItems, IsAnswer, IsItsFirst, EachContinues}
+use Rattle.reql_story.proofs.Shelves.{found_token}
+
+either : {A : Type 0} (P : A → Type 0) (x : Bool) (y z : A) → (x ≡ true → P y) → (x ≡ false → P z) → P (cond x y z)
+either P true y z f g = f refl
+either P false y z f g = g refl
+
+some_is : (x y : Open) → Some x ≡ Some y → x ≡ y
+some_is x y h = ap (λ o. get x o) h
+  where
+    get : Open → Option Open → Open
+    get d None = d
+    get d (Some z) = z
+
+-- a batch of something that is cut to a size has an item
+some_front : (n : ℕ) (xs : List Shown) → is_empty xs ≡ false → 1 ≤ n → take n xs ≡ [] → ⊥
+some_front n [] h le e = absurd (true≢false h)
+some_front zero (x ∷ xs) h le e = absurd (omega (arith, le))
+some_front (suc n) (x ∷ xs) h le e = absurd (let z : x ∷ take n xs ≡ [] = e in cc)
+
+some_batch : (n : ℕ) (skip changes : List Shown) → is_empty (skip ++ changes) ≡ false → 1 ≤ n → skip ++ take n changes ≡ [] → ⊥
+some_batch n [] changes h le e = some_front n changes h le e
+some_batch n (x ∷ xs) changes h le e = absurd (let z : x ∷ (xs ++ take n changes) ≡ [] = e in cc)
+
+place_of : (prior arms : List Arm) (arm : Arm) → length (prior ++ arm ∷ arms) - length (arm ∷ arms) ≡ length prior
+place_of prior arms arm = omega (arith, length-append prior (arm ∷ arms))
+
+-- ---- one more event
+longer : (es before after : List Event) (x e : Event) → es ≡ before ++ x ∷ after → es ++ e ∷ [] ≡ before ++ x ∷ (after ++ e ∷ [])
+longer es before after x e h = ap (λ z. z ++ e ∷ []) h ∙ append_assoc before (x ∷ after) (e ∷ [])
+
+abbrev took_still : (feed : Open) (answer : Said Summary Plain) (es : List Event) (e : Event) → TookArm feed answer es → TookArm feed answer (es ++ e ∷ [])
+took_still feed answer es e t = record {
+  prior = t.prior;
+  arm = t.arm;
+  rest = t.rest;
+  arms = t.arms;
+  took = record {
+    before = t.took.before;
+    after = t.took.after ++ e ∷ [];
+    place = t.took.place;
+    reply = t.took.reply;
+    kept = t.took.kept;
+    events = longer es t.took.before t.took.after (On t.arm.slot (Ran t.took.place (take_order t.arm.feed feed.batch) t.took.reply) t.took.kept) e t.took.events;
+    says = t.took.says;
+  };
+}
+
+taken_still : (feed : Open) (items : List Shown) (es : List Event) (e : Event) → IsTaken feed items es → IsTaken feed items (es ++ e ∷ [])
+taken_still feed items es e t = record { skipped = t.skipped; last = t.last; changes = t.changes; took = took_still feed (said_as.Batch t.skipped t.last t.changes) es e t.took; given = t.given }
+
+module _ {PL : Type 0} (k : Talk PL) where
+  answer_still : (feed : Open) (a : Answer) (es : List Event) (e : Event) → IsAnswer k feed a es → IsAnswer k feed a (es ++ e ∷ [])
+  answer_still feed a es e h = elim h [
+    | inl x ↦ inl (record { items = x.items; points = x.points; is = x.is; some = x.some; source = elim x.source [ inl l ↦ inl l | inr t ↦ inr (t.0, taken_still feed x.items es e t.1) ] })
+    | inr y ↦ elim y [
+      | inl x ↦ inr (inl (record { points = x.points; took = took_still feed said_as.Gone es e x.took; is = x.is }))
+      | inr z ↦ elim z [
+        | inl x ↦ inr (inr (inl (record { count = x.count; took = took_still feed (said_as.HistoryFull x.count) es e x.took; is = x.is })))
+        | inr x ↦ inr (inr (inr (x.0, record { before = x.1.before; event = x.1.event; after = x.1.after ++ e ∷ []; events = longer es x.1.before x.1.after x.1.event e x.1.events; is = x.1.is })))
+      ]
+    ]
+  ]
+
+  -- memory is wanted now
+  wants_now : (feed : Open) (es : List Event) (e : Event) → IsWanting e → IsAnswer k feed Internal (es ++ e ∷ [])
+  wants_now feed es e w = inr (inr (inr (refl, record { before = es; event = e; after = []; events = refl; is = w })))
+
+  module _ (token : ℕ) (feed : Open) (es : List Event) where
+    -- the arms that are still to be taken from, behind others
+    record IsAt (b : Books) (u : ℕ) (arms : List Arm) : Type 0 where
+      same : u ≡ token
+      its : feed_of token b.feeds ≡ Some feed
+      left : feed.left ≡ []
+      prior : List Arm
+      all : feed.arms ≡ prior ++ arms
+
+    abbrev Tells : ℕ → Answer → Type 0
+    Tells u a = (u ≡ token) × IsAnswer k feed a es
+
+    abbrev OnTask : Books → Task PL → Type 0
+    OnTask b (Planning u plan noreply count found arms) = ⊥
+    OnTask b (Visiting u arms points) = IsAt b u arms
+    OnTask b (Telling u a kept lose after) = Tells u a
+    OnTask b (Closing u arms firm None) = ⊥
+    OnTask b (Closing u arms firm (Some a)) = Tells u a
+
+    abbrev OnNext : Books → Option (Task PL) → Type 0
+    OnNext b None = Unit {0}
+    OnNext b (Some task) = OnTask b task
+
+    abbrev Good : Next PL → Type 0
+    Good y = OnNext y.books y.task
+
+    abbrev OnDoing : Books → Doing PL → Type 0
+    OnDoing b Rest = Unit {0}
+    OnDoing b (Visits left) = Unit {0}
+    OnDoing b (Busy back task) = OnTask b task
+    OnDoing b (Leaving arms end) = Unit {0}
+
+    close_good : (b : Books) (u : ℕ) (arms : List Arm) (firm : Firm) (a : Answer) → Tells u a → Good (close b u arms firm (Some a))
+    close_good b u [] firm a h = h
+    close_good b u (arm ∷ arms) firm a h = h
+
+    tell_good : (b : Books) (u : ℕ) (a : Answer) (kept : Books) (arms : List Arm) (lose : Option (List Arm)) → ((z : Answer) → z ≡ fitted k a → Tells u z) → Good (tell k b u a kept arms lose)
+    tell_good b u a kept arms lose h = either Good (is_long k a) (cut k b u a arms) (at b (Telling u a kept lose None))
+        (λ t. close_good (closed u b) u arms Settled (cut_to k a) (h (cut_to k a) (sym (ap (λ c. cond c (cut_to k a) a) t))))
+        (λ t. h a (sym (ap (λ c. cond c (cut_to k a) a) t)))
+
+    wanted_good : (b : Books) (u : ℕ) (task : Task PL) → (OnTask b task) → ((v : ℕ) → v ≡ token → Tells v Internal) → Good (wanted b task)
+    wanted_good b w (Planning u plan noreply count found arms) h i = absurd h
+    wanted_good b w (Visiting u arms points) h i = i u h.same
+    wanted_good b w (Telling u a kept None after) h i = i u h.0
+    wanted_good b w (Telling u a kept (Some arms) after) h i = close_good (closed u b) u arms Settled Internal (i u h.0)
+    wanted_good b w (Closing u arms firm None) h i = absurd h
+    wanted_good b w (Closing u arms Settled (Some a)) h i = close_good b u arms Settled Internal (i u h.0)
+    wanted_good b w (Closing u arms Stops (Some a)) h i = i u h.0
+    wanted_good b w (Closing u arms Drops (Some a)) h i = i u h.0
+
+    denied_good : (b : Books) (task : Task PL) (slot : ℕ) (cmd : Cmd) → OnTask b task → ((v : ℕ) → v ≡ token → Tells v Internal) → Good (denied b task slot cmd)
+    denied_good b (Planning u plan noreply count found arms) slot cmd h i = absurd h
+    denied_good b (Visiting u arms points) slot cmd h i = i u h.same
+    denied_good b (Telling u a kept lose after) slot cmd h i = wanted_good b u (Telling u a kept lose after) h i
+    denied_good b (Closing u arms firm None) slot cmd h i = absurd h
+    denied_good b (Closing u [] firm (Some a)) slot cmd h i = wanted_good b u (Closing u [] firm (Some a)) h i
+    denied_good b (Closing u (arm ∷ arms) Stops (Some a)) slot cmd h i = i u h.0
+    denied_good b (Closing u (arm ∷ arms) Drops (Some a)) slot cmd h i = close_good (closed u b) u arms Settled a h
+    denied_good b (Closing u (arm ∷ arms) Settled (Some a)) slot cmd h i = close_good (closed u b) u arms Settled a h
+
+    -- ---- a Take of an arm
+    module _ (b : Books) (own : feed.token ≡ token) (its : feed_of token b.feeds ≡ Some feed) (none : feed.left ≡ []) (arm : Arm) (arms prior : List Arm) (all : feed.arms ≡ prior ++ arm ∷ arms) where
+      next_good : (rest : List Arm) (points : List Point) → arms ≡ rest → Good (next_arm k b feed.token rest points)
+      next_good [] points q = tt
+      next_good (x ∷ xs) points q = record { same = own; its = its; left = none; prior = prior ++ arm ∷ []; all = all ∙ ap (λ z. prior ++ arm ∷ z) q ∙ sym (append_assoc prior (arm ∷ []) (x ∷ xs)) }
+
+      batch_tells : (n : ℕ) (points : Stamped) (skipped last : ℕ) (items : List (ℕ × Plain)) → n ≡ length prior → Took arm feed.batch (said_as.Batch skipped last items) es → is_empty (skipped_item n arm skipped last ++ change_items n arm items) ≡ false
+          → (a : Answer) → a ≡ fitted k (Batch feed.notes (skipped_item n arm skipped last ++ take feed.batch (change_items n arm items)) (Some points)) → TellsItems k feed a es
+      batch_tells n points skipped last items place t full a q = record {
+        items = skipped_item n arm skipped last ++ take feed.batch (change_items n arm items);
+        points = Some points;
+        is = q;
+        some = some_batch feed.batch (skipped_item n arm skipped last) (change_items n arm items) full;
+        source = inr (
+          none,
+          record {
+            skipped = skipped;
+            last = last;
+            changes = items;
+            took = record { prior = prior; arm = arm; rest = arms; arms = all; took = t };
+            given = ap (λ z. skipped_item z arm skipped last ++ take feed.batch (change_items z arm items)) place;
+          },
+        );
+      }
+
+      batch_good : (n : ℕ) (points : List Point) (skipped last : ℕ) (items : List (ℕ × Plain)) → n ≡ length prior → Took arm feed.batch (said_as.Batch skipped last items) es → Good (batch_of k b feed n arm points skipped last items)
+      batch_good n points skipped last items place t = either Good (is_empty (skipped_item n arm skipped last ++ change_items n arm items)) _ _ (λ _. tt)
+          (λ full. tell_good b feed.token _ (with_left feed.token (drop feed.batch (change_items n arm items)) b) feed.arms (Some feed.arms) (λ z q. (own, inl (batch_tells n (stamped b.names points) skipped last items place t full z q))))
+
+      gone_good : (rest : List Arm) (points : List Point) → Took arm feed.batch said_as.Gone es → Good (gone k b feed arm points rest)
+      gone_good [] points t = (own, inr (inl (record { points = stamped b.names points; took = record { prior = prior; arm = arm; rest = arms; arms = all; took = t }; is = refl })))
+      gone_good (x ∷ xs) points t = (own, inr (inl (record { points = stamped b.names points; took = record { prior = prior; arm = arm; rest = arms; arms = all; took = t }; is = refl })))
+
+      took_good : (points : List Point) (s : Said Summary Plain) → Took arm feed.batch s es → Good (took_said k b feed arm arms points s)
+      took_good points (said_as.Batch skipped last items) t = batch_good (length feed.arms - length (arm ∷ arms)) points skipped last items (ap (λ z. length z - length (arm ∷ arms)) all ∙ place_of prior arms arm) t
+      took_good points said_as.Gone t = gone_good (others arm feed.arms) points t
+      took_good points (said_as.HistoryFull count) t = close_good (closed feed.token b) feed.token feed.arms Settled _
+          (own, inr (inr (inl (record { count = count; took = record { prior = prior; arm = arm; rest = arms; arms = all; took = t }; is = refl }))))
+      took_good points other t = next_good arms points refl
+
+    -- ---- where it is taken up, or visited
+    left_tells : (x : Shown) (xs : List Shown) → feed.left ≡ x ∷ xs → (a : Answer) → a ≡ fitted k (Batch feed.notes (take feed.batch (x ∷ xs)) None) → TellsItems k feed a es
+    left_tells x xs q a e = record {
+      items = take feed.batch (x ∷ xs);
+      points = None;
+      is = e;
+      some = some_front feed.batch (x ∷ xs) refl;
+      source = inl (λ none. absurd (let z : x ∷ xs ≡ [] = sym q ∙ none in cc), ap (λ z. take feed.batch z) (sym q));
+    }
+
+    left_good : (b : Books) (left : List Shown) → feed.token ≡ token → feed_of token b.feeds ≡ Some feed → feed.left ≡ left → Good (continue_left k b feed left)
+    left_good b [] own its q = record { same = own; its = its; left = q; prior = []; all = refl }
+    left_good b (x ∷ xs) own its q = tell_good b feed.token _ (with_left feed.token (drop feed.batch (x ∷ xs)) b) feed.arms None (λ z e. (own, inl (left_tells x xs q z e)))
+
+  -- ---- a step
+  module _ (token : ℕ) (feed : Open) (es : List Event) (m n : Mach PL) (e : Event) where
+    abbrev now : List Event
+    now = es ++ e ∷ []
+
+    abbrev Now : Mach PL → Type 0
+    Now x = OnDoing token feed now x.books x.doing
+
+    by_next : (x : Mach PL) (back : Option (List ℕ)) (y : Next PL) → n ≡ goes_on x back y → Good token feed now y → Now n
+    by_next x back y g d = subst Now (sym g) (fits back y.task d)
+      where
+        fits : (back : Option (List ℕ)) (task : Option (Task PL)) → OnNext token feed now y.books task → OnDoing token feed now y.books (doing_next back task)
+        fits None None f = tt
+        fits (Some left) None f = tt
+        fits back (Some task) f = f
+
+    moves : (x : Mach PL) → n ≡ x → Now x → Now n
+    moves x g d = subst Now (sym g) d
+
+    module _ (h : OnDoing token feed es m.books m.doing) where
+      task_at : (back : Option (List ℕ)) (task : Task PL) → m.doing ≡ Busy back task → OnTask token feed es m.books task
+      task_at back task d = subst (OnDoing token feed es m.books) d h
+
+      -- the same, with one more event
+      task_still : (task : Task PL) → OnTask token feed es m.books task → OnTask token feed now m.books task
+      task_still (Planning u plan noreply count found arms) t = absurd t
+      task_still (Visiting u arms points) t = record { same = t.same; its = t.its; left = t.left; prior = t.prior; all = t.all }
+      task_still (Telling u a kept lose after) t = (t.0, answer_still feed a es e t.1)
+      task_still (Closing u arms firm None) t = absurd t
+      task_still (Closing u arms firm (Some a)) t = (t.0, answer_still feed a es e t.1)
+
+      no_plan : {A : Type 0} (move : Move) (b : Books) (task : Task PL) → Asks k task move → OnTask token feed es b task → A
+      no_plan move b (Planning u plan noreply count found arms) s t = absurd t
+      no_plan move b (Visiting u arms points) s t = absurd s
+      no_plan move b (Telling u a kept lose after) s t = absurd s
+      no_plan move b (Closing u arms firm a) s t = absurd s
+
+      planned : (move : Move) (b : Books) (x : Found) → Plans k m move b x n → Now n
+      planned move b x s = no_plan move m.books s.task s.asks (task_at s.back s.task s.doing)
+
+      refused : (move : Move) → PlanDenied k m move n → Now n
+      refused move s = no_plan move m.books s.task s.asks (task_at s.back s.task s.doing)
+
+      by_arm : (slot : ℕ) (arm : Arm) → LeavesArm k m slot arm n → Now n
+      by_arm slot arm s = moves _ s.goes tt
+
+      by_want : IsWanting e → (v : ℕ) → v ≡ token → Tells token feed now v Internal
+      by_want w v q = (q, wants_now feed es e w)
+
+  ran_now : (token : ℕ) (feed : Open) (es : List Event) (b : Books) (task : Task PL) (slot place : ℕ) (order : Order) (reply : Told) (saved : Saved) → Runs k b task slot order → OnTask token feed es b task
+      → Good token feed (es ++ On slot (Ran place order reply) saved ∷ []) (ran k b task slot order.cmd reply saved)
+  ran_now token feed es b (Planning u plan noreply count found arms) slot place order reply saved x t = absurd t
+  ran_now token feed es b (Visiting u [] points) slot place order reply saved x t = absurd x
+  ran_now token feed es b (Visiting u (arm ∷ arms) points) slot place order reply saved x t =
+      let its : feed_of u b.feeds ≡ Some feed = ap (λ z. feed_of z b.feeds) t.same ∙ t.its in
+      let same : x.0 ≡ feed = some_is x.0 feed (sym x.1 ∙ its) in
+      let own : feed.token ≡ token = eqb-true feed.token token (found_token 0 0 false token b.feeds feed t.its) in
+      let takes : order ≡ take_order arm.feed feed.batch = x.3 ∙ ap (λ (z : Open). take_order arm.feed z.batch) same in
+      subst (λ o. Good token feed (es ++ On slot (Ran place order reply) saved ∷ []) (took k b u arm arms points reply o)) (sym its)
+      (took_good token feed (es ++ On slot (Ran place order reply) saved ∷ []) b own t.its t.left arm arms t.prior t.all _ reply.said
+      (record { before = es; after = []; place = place; reply = reply; kept = saved; events = λ i. es ++ On (x.2 i) (Ran place (takes i) reply) saved ∷ []; says = refl }))
+  ran_now token feed es b (Telling u a kept lose after) slot place order reply saved x t = absurd x
+  ran_now token feed es b (Closing u arms firm None) slot place order reply saved x t = absurd t
+  ran_now token feed es b (Closing u [] firm (Some a)) slot place order reply saved x t = absurd x
+  ran_now token feed es b (Closing u (arm ∷ arms) firm (Some a)) slot place order reply saved x t =
+      close_good token feed (es ++ On slot (Ran place order reply) saved ∷ []) (closed u b) u arms Settled a (t.0, answer_still feed a es (On slot (Ran place order reply) saved) t.1)
+
+  step_now : (token : ℕ) (feed : Open) (es : List Event) (m n : Mach PL) (e : Event) → Step k m e n → IsWithin e → OnDoing token feed es m.books m.doing → OnDoing token feed (es ++ e ∷ []) n.books n.doing
+  step_now token feed es m n Turn s w h = absurd w
+  step_now token feed es m n Visit s w h = absurd w
+  step_now token feed es m n (Begin frame is_read) s w h = absurd w
+  step_now token feed es m n (Say t a whole) s w h = absurd w
+  step_now token feed es m n (Greeted true) s w h = elim s.2 [ inl g ↦ moves token feed es m n (Greeted true) _ g.4 tt | inr g ↦ moves token feed es m n (Greeted true) _ g.4 tt ]
+  step_now token feed es m n (Greeted false) s w h = elim s.2 [ inl g ↦ moves token feed es m n (Greeted false) _ g.4 tt | inr g ↦ moves token feed es m n (Greeted false) _ g.4 tt ]
+  step_now token feed es m n (Heard bytes) s w h = moves token feed es m n (Heard bytes) _ s.2 tt
+  step_now token feed es m n (Lost bytes) s w h = moves token feed es m n (Lost bytes) _ s.2 tt
+  step_now token feed es m n Quiet s w h = moves token feed es m n Quiet _ s.1 tt
+  step_now token feed es m n Finish s w h = moves token feed es m n Finish _ s.1 tt
+  step_now token feed es m n Broken s w h = moves token feed es m n Broken _ s.1 tt
+  step_now token feed es m n (Long len) s w h = moves token feed es m n (Long len) _ s.3 tt
+  step_now token feed es m n Wear s w h = moves token feed es m n Wear _ s.1 tt
+  step_now token feed es m n Poor s w h = moves token feed es m n Poor _ s.1 tt
+  step_now token feed es m n (On slot (Ran place order reply) saved) s w h = elim s [
+    | inl x ↦ by_next token feed es m n (On slot (Ran place order reply) saved) m x.back (ran k m.books x.task slot order.cmd reply saved) x.goes
+        (ran_now token feed es m.books x.task slot place order reply saved x.runs (task_at token feed es m n (On slot (Ran place order reply) saved) h x.back x.task x.doing))
+    | inr x ↦ by_arm token feed es m n (On slot (Ran place order reply) saved) h slot x.0 x.2
+  ]
+  step_now token feed es m n (On slot (Looked place question look) saved) s w h = planned token feed es m n (On slot (Looked place question look) saved) h _ m.books _ s
+  step_now token feed es m n (On slot (Denied place) saved) s w h = elim s [
+    | inl x ↦ by_next token feed es m n (On slot (Denied place) saved) m x.back (denied m.books x.task slot x.order.cmd) x.goes
+        (denied_good token feed (es ++ (On slot (Denied place) saved) ∷ []) m.books x.task slot x.order.cmd (task_still token feed es m n (On slot (Denied place) saved) h x.task (task_at token feed es m n (On slot (Denied place) saved) h x.back x.task x.doing)) (by_want token feed es m n (On slot (Denied place) saved) h tt))
+    | inr y ↦ elim y [ inl x ↦ refused token feed es m n (On slot (Denied place) saved) h _ x | inr x ↦ by_arm token feed es m n (On slot (Denied place) saved) h slot x.0 x.1 ]
+  ]
+  step_now token feed es m n (OnNames (Ran place cmd reply)) s w h = planned token feed es m n (OnNames (Ran place cmd reply)) h _ (saw_names reply.place m.books) _ s
+  step_now token feed es m n (OnNames (Looked place question names)) s w h = planned token feed es m n (OnNames (Looked place question names)) h _ (saw_names place m.books) _ s
+  step_now token feed es m n (OnNames (Denied place)) s w h = elim s [ inl x ↦ refused token feed es m n (OnNames (Denied place)) h _ x | inr x ↦ refused token feed es m n (OnNames (Denied place)) h _ x.1 ]
+  step_now token feed es m n (Clock moment) s w h = planned token feed es m n (Clock moment) h _ m.books _ s
+  step_now token feed es m n (Dice bytes) s w h = planned token feed es m n (Dice bytes) h _ m.books _ s
+  step_now token feed es m n Come s w h = absurd (task_at token feed es m n Come h s.back (Planning s.token s.plan s.noreply s.count s.found s.arms) s.doing)
+  step_now token feed es m n Want s w h = by_next token feed es m n Want m s.back (wanted m.books s.task) s.goes (wanted_good token feed (es ++ Want ∷ []) m.books 0 s.task (task_still token feed es m n Want h s.task (task_at token feed es m n Want h s.back s.task s.doing)) (by_want token feed es m n Want h tt))
+
+  run_now : (token : ℕ) (feed : Open) (es more : List Event) (m n : Mach PL) → Run k m more n → AllByRecursion IsWithin more → OnDoing token feed es m.books m.doing → OnDoing token feed (es ++ more) n.books n.doing
+  run_now token feed es [] m n r w h = subst (λ z. OnDoing token feed z n.books n.doing) (sym (append-nil es)) (subst (λ (z : Mach PL). OnDoing token feed es z.books z.doing) (sym r) h)
+  run_now token feed es (e ∷ more) m n r w h = subst (λ z. OnDoing token feed z n.books n.doing) (append_assoc es (e ∷ []) more) (run_now token feed (es ++ e ∷ []) more r.0 n r.2 w.1 (step_now token feed es m r.0 e r.1 w.0 h))
+
+  -- where it begins
+  begun : (m n : Mach PL) (token : ℕ) (feed : Open) (back : Option (List ℕ)) (x : Mach PL) → n ≡ goes_on x back (continue_left k m.books feed feed.left) → feed_of token m.books.feeds ≡ Some feed → OnDoing token feed [] n.books n.doing
+  begun m n token feed back x g its =
+      let own : feed.token ≡ token = eqb-true feed.token token (found_token 0 0 false token m.books.feeds feed its) in
+      let y : Next PL = continue_left k m.books feed feed.left in
+      subst (λ (z : Mach PL). OnDoing token feed [] z.books z.doing) (sym g) (fits y.books back y.task (left_good token feed [] m.books feed.left own its refl))
+    where
+      fits : (b : Books) (back : Option (List ℕ)) (task : Option (Task PL)) → OnNext token feed [] b task → OnDoing token feed [] b (doing_next back task)
+      fits b None None f = tt
+      fits b (Some left) None f = tt
+      fits b back (Some task) f = f
+
+  abbrev first_of : Doing PL → ℕ
+  first_of (Visits (t ∷ left)) = t
+  first_of other = 0
+
+  starts : (m n : Mach PL) (token : ℕ) (feed : Open) (e : Event) → IsTakenUp k token m e → IsItsFirst k token m e → feed_of token m.books.feeds ≡ Some feed → Step k m e n → OnDoing token feed [] n.books n.doing
+  starts m n token feed Visit t i its s =
+      let same : s.0 ≡ token = ap first_of (sym s.2 ∙ t.1) in
+      begun m n token feed (Some s.1) m (s.3 ∙ ap (λ z. goes_on m (Some s.1) (visit_feed k m.books s.0 z)) (ap (λ z. feed_of z m.books.feeds) same ∙ its)) its
+  starts m n token feed (Begin frame true) t i its s =
+      let x : Mach PL = record m { held = s.0 } in
+      let on : takes_up k m.books frame.token frame.body true ≡ begin k m.books token Continue = λ j. begin k m.books (t.0 j) (t.1 j) in
+      let goes : begin k m.books token Continue ≡ continue_left k m.books feed feed.left =
+      ap (λ z. continue_on k m.books token z) i.0 ∙ (ap (λ z. continue_feed k m.books token z) its ∙ ap (λ z. cond z (tell_now k m.books token (Client (at_wait token))) (continue_left k m.books feed feed.left)) i.1) in
+      begun m n token feed None x (s.5 ∙ ap (λ z. goes_on x None z) (on ∙ goes)) its
+  starts m n token feed (Begin frame false) t i its s = absurd t
+  starts m n token feed Turn t i its s = absurd t
+  starts m n token feed (Greeted whole) t i its s = absurd t
+  starts m n token feed (Heard bytes) t i its s = absurd t
+  starts m n token feed (Lost bytes) t i its s = absurd t
+  starts m n token feed Quiet t i its s = absurd t
+  starts m n token feed Finish t i its s = absurd t
+  starts m n token feed Broken t i its s = absurd t
+  starts m n token feed (Long len) t i its s = absurd t
+  starts m n token feed Wear t i its s = absurd t
+  starts m n token feed Poor t i its s = absurd t
+  starts m n token feed (On slot act saved) t i its s = absurd t
+  starts m n token feed (OnNames act) t i its s = absurd t
+  starts m n token feed (Clock moment) t i its s = absurd t
+  starts m n token feed (Dice bytes) t i its s = absurd t
+  starts m n token feed Come t i its s = absurd t
+  starts m n token feed (Say u a whole) t i its s = absurd t
+  starts m n token feed Want t i its s = absurd t
+
+  pub each_continues : EachContinues k
+  each_continues m x y z token feed first es t a whole up i its s r within says =
+      let h : OnDoing token feed es y.books y.doing = run_now token feed [] es x y r within (starts m x token feed first up i its s) in
+      subst (OnDoing token feed es y.books) says.doing h
