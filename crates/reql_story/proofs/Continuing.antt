@@ -1,5 +1,5 @@
 -- What a CONTINUE on a feed is answered: from where it is taken up, or visited, to its answer.
-use Rattle.std.proofs.Common.{◌≡◌, ◌≤◌, ◌-◌, inl, inr, ℕ, zero, suc, Bool, true, false, true≢false, cond, List, [], ◌∷◌, ◌++◌, take, drop, length, Option, Some, None, refl, sym, ap, subst, ◌∙◌, arith, append_assoc, append-nil, length-append}
+use Rattle.std.proofs.Common.{◌≡◌, ◌≤◌, ◌-◌, inl, inr, ℕ, zero, suc, Bool, true, false, true≢false, cond, List, [], ◌∷◌, ◌++◌, take, drop, length, Option, Some, None, refl, sym, ap, subst, ◌∙◌, arith, append_assoc, append-nil}
 use Rattle.std.specs.List.{AllByRecursion}
 use Rattle.std.proofs.lemmas.Bool.{eqb-true}
 use Rattle.reql_table_machine.specs.declared.command.Said.{Said}
@@ -19,8 +19,10 @@ use Rattle.reql_story.specs.Bodies.{full, at_wait}
 use Rattle.reql_story.specs.Tasks.{Talk, Firm, Stops, Drops, Settled, Task, Planning, Visiting, Telling, Closing, Next, at, close, wanted, denied, is_long, cut, cut_to, fitted, tell, continue_left, continue_feed, continue_on, visit_feed, begin, takes_up, next_arm, batch_of, gone, took_said, took, ran, Runs, Asks, is_empty, skipped_item, change_items, others, take_order, tell_now}
 use Rattle.reql_story.specs.Session.{Event, Turn, Visit, Greeted, Begin, Heard, Lost, Quiet, Finish, Broken, Long, Wear, Poor, On, OnNames, Dice, Clock, Come, Say, Want, Doing, Rest, Visits, Busy, Leaving, Mach, Step, Run, doing_next, goes_on, Plans, PlanDenied, LeavesArm}
 use Rattle.reql_story.specs.Waiting.{IsTakenUp}
-use Rattle.reql_story.specs.Continuing.{IsWithin, Took, TookArm, IsWanting, IsTaken, TellsItems, IsAnswer, IsItsFirst, EachContinues}
+use Rattle.reql_story.specs.Opened.{Took}
+use Rattle.reql_story.specs.Continuing.{IsWithin, IsWanting, IsTaken, TellsItems, IsAnswer, IsItsFirst, EachContinues}
 use Rattle.reql_story.proofs.Shelves.{found_token}
+use Rattle.reql_story.proofs.Opened.{longer, place_of, took_still}
 
 either : {A : Type 0} (P : A → Type 0) (x : Bool) (y z : A) → (x ≡ true → P y) → (x ≡ false → P z) → P (cond x y z)
 either P true y z f g = f refl
@@ -43,41 +45,17 @@ some_batch : (n : ℕ) (skip changes : List Shown) → is_empty (skip ++ changes
 some_batch n [] changes h le e = some_front n changes h le e
 some_batch n (x ∷ xs) changes h le e = absurd (let z : x ∷ (xs ++ take n changes) ≡ [] = e in cc)
 
-place_of : (prior arms : List Arm) (arm : Arm) → length (prior ++ arm ∷ arms) - length (arm ∷ arms) ≡ length prior
-place_of prior arms arm = omega (arith, length-append prior (arm ∷ arms))
-
--- ---- one more event
-longer : (es before after : List Event) (x e : Event) → es ≡ before ++ x ∷ after → es ++ e ∷ [] ≡ before ++ x ∷ (after ++ e ∷ [])
-longer es before after x e h = ap (λ z. z ++ e ∷ []) h ∙ append_assoc before (x ∷ after) (e ∷ [])
-
-abbrev took_still : (feed : Open) (answer : Said Summary Plain) (es : List Event) (e : Event) → TookArm feed answer es → TookArm feed answer (es ++ e ∷ [])
-took_still feed answer es e t = record {
-  prior = t.prior;
-  arm = t.arm;
-  rest = t.rest;
-  arms = t.arms;
-  took = record {
-    before = t.took.before;
-    after = t.took.after ++ e ∷ [];
-    place = t.took.place;
-    reply = t.took.reply;
-    kept = t.took.kept;
-    events = longer es t.took.before t.took.after (On t.arm.slot (Ran t.took.place (take_order t.arm.feed feed.batch) t.took.reply) t.took.kept) e t.took.events;
-    says = t.took.says;
-  };
-}
-
 taken_still : (feed : Open) (items : List Shown) (es : List Event) (e : Event) → IsTaken feed items es → IsTaken feed items (es ++ e ∷ [])
-taken_still feed items es e t = record { skipped = t.skipped; last = t.last; changes = t.changes; took = took_still feed (said_as.Batch t.skipped t.last t.changes) es e t.took; given = t.given }
+taken_still feed items es e t = record { skipped = t.skipped; last = t.last; changes = t.changes; took = took_still feed.arms feed.batch (said_as.Batch t.skipped t.last t.changes) es e t.took; given = t.given }
 
 module _ {PL : Type 0} (k : Talk PL) where
   answer_still : (feed : Open) (a : Answer) (es : List Event) (e : Event) → IsAnswer k feed a es → IsAnswer k feed a (es ++ e ∷ [])
   answer_still feed a es e h = elim h [
     | inl x ↦ inl (record { items = x.items; points = x.points; is = x.is; some = x.some; source = elim x.source [ inl l ↦ inl l | inr t ↦ inr (t.0, taken_still feed x.items es e t.1) ] })
     | inr y ↦ elim y [
-      | inl x ↦ inr (inl (record { points = x.points; took = took_still feed said_as.Gone es e x.took; is = x.is }))
+      | inl x ↦ inr (inl (record { points = x.points; took = took_still feed.arms feed.batch said_as.Gone es e x.took; is = x.is }))
       | inr z ↦ elim z [
-        | inl x ↦ inr (inr (inl (record { count = x.count; took = took_still feed (said_as.HistoryFull x.count) es e x.took; is = x.is })))
+        | inl x ↦ inr (inr (inl (record { count = x.count; took = took_still feed.arms feed.batch (said_as.HistoryFull x.count) es e x.took; is = x.is })))
         | inr x ↦ inr (inr (inr (x.0, record { before = x.1.before; event = x.1.event; after = x.1.after ++ e ∷ []; events = longer es x.1.before x.1.after x.1.event e x.1.events; is = x.1.is })))
       ]
     ]
@@ -167,7 +145,7 @@ module _ {PL : Type 0} (k : Talk PL) where
             skipped = skipped;
             last = last;
             changes = items;
-            took = record { prior = prior; arm = arm; rest = arms; arms = all; took = t };
+            took = record { prior = prior; arm = arm; rest = arms; all = all; took = t };
             given = ap (λ z. skipped_item z arm skipped last ++ take feed.batch (change_items z arm items)) place;
           },
         );
@@ -178,14 +156,14 @@ module _ {PL : Type 0} (k : Talk PL) where
           (λ full. tell_good b feed.token _ (with_left feed.token (drop feed.batch (change_items n arm items)) b) feed.arms (Some feed.arms) (λ z q. (own, inl (batch_tells n (stamped b.names points) skipped last items place t full z q))))
 
       gone_good : (rest : List Arm) (points : List Point) → Took arm feed.batch said_as.Gone es → Good (gone k b feed arm points rest)
-      gone_good [] points t = (own, inr (inl (record { points = stamped b.names points; took = record { prior = prior; arm = arm; rest = arms; arms = all; took = t }; is = refl })))
-      gone_good (x ∷ xs) points t = (own, inr (inl (record { points = stamped b.names points; took = record { prior = prior; arm = arm; rest = arms; arms = all; took = t }; is = refl })))
+      gone_good [] points t = (own, inr (inl (record { points = stamped b.names points; took = record { prior = prior; arm = arm; rest = arms; all = all; took = t }; is = refl })))
+      gone_good (x ∷ xs) points t = (own, inr (inl (record { points = stamped b.names points; took = record { prior = prior; arm = arm; rest = arms; all = all; took = t }; is = refl })))
 
       took_good : (points : List Point) (s : Said Summary Plain) → Took arm feed.batch s es → Good (took_said k b feed arm arms points s)
       took_good points (said_as.Batch skipped last items) t = batch_good (length feed.arms - length (arm ∷ arms)) points skipped last items (ap (λ z. length z - length (arm ∷ arms)) all ∙ place_of prior arms arm) t
       took_good points said_as.Gone t = gone_good (others arm feed.arms) points t
       took_good points (said_as.HistoryFull count) t = close_good (closed feed.token b) feed.token feed.arms Settled _
-          (own, inr (inr (inl (record { count = count; took = record { prior = prior; arm = arm; rest = arms; arms = all; took = t }; is = refl }))))
+          (own, inr (inr (inl (record { count = count; took = record { prior = prior; arm = arm; rest = arms; all = all; took = t }; is = refl }))))
       took_good points other t = next_good arms points refl
 
     -- ---- where it is taken up, or visited

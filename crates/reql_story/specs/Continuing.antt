@@ -4,17 +4,14 @@ use Rattle.std.specs.List.{AllByRecursion}
 use Rattle.reql_datum.specs.Plain.{Plain}
 use Rattle.reql_answer.specs.Body.{Stamped}
 use Rattle.reql_answer.specs.declared.error.ErrorType.TheVariants as errors
-use Rattle.reql_shared.specs.Acts.{Ran, Denied}
-use Rattle.reql_table_machine.specs.declared.command.Said.{Said}
+use Rattle.reql_shared.specs.Acts.{Denied}
 use Rattle.reql_table_machine.specs.declared.command.Said.TheVariants as said
-use Rattle.reql_write_law.specs.declared.command.Summary.{Summary}
-use Rattle.reql_law.specs.Replies.{Answered as Told}
-use Rattle.reql_law.specs.declared.reply.Saved.{Saved}
-use Rattle.reql_story.specs.Requests.{Arm, Shown, Answer, Failed, Internal, Batch}
+use Rattle.reql_story.specs.Requests.{Shown, Answer, Failed, Internal, Batch}
 use Rattle.reql_story.specs.Books.{Open, has_token, cursor_of, feed_of}
 use Rattle.reql_story.specs.Bodies.{full}
-use Rattle.reql_story.specs.Tasks.{Talk, take_order, skipped_item, change_items, fitted}
+use Rattle.reql_story.specs.Tasks.{Talk, skipped_item, change_items, fitted}
 use Rattle.reql_story.specs.Session.{Event, Turn, Visit, Begin, On, Say, Want, Mach, Step, Run}
+use Rattle.reql_story.specs.Opened.{TookArm}
 use Rattle.reql_story.specs.Waiting.{IsTakenUp}
 
 -- no turn and no visit begins, no frame is taken, and no answer is sent
@@ -24,24 +21,6 @@ IsWithin Visit = ⊥
 IsWithin (Begin frame is_read) = ⊥
 IsWithin (Say token a whole) = ⊥
 IsWithin e = Unit {0}
-
--- these events have a Take of the arm, of so many items at most, that was answered so
-pub record Took (arm : Arm) (max : ℕ) (answer : Said Summary Plain) (es : List Event) : Type 0 where
-  pub before : List Event
-  pub after : List Event
-  pub place : ℕ
-  pub reply : Told
-  pub kept : Saved
-  pub events : es ≡ before ++ On arm.slot (Ran place (take_order arm.feed max) reply) kept ∷ after
-  pub says : reply.said ≡ answer
-
--- an arm of the feed, behind these
-pub record TookArm (feed : Open) (answer : Said Summary Plain) (es : List Event) : Type 0 where
-  pub prior : List Arm
-  pub arm : Arm
-  pub rest : List Arm
-  pub arms : feed.arms ≡ prior ++ arm ∷ rest
-  pub took : Took arm feed.batch answer es
 
 -- memory was wanted, of the session or of a table
 abbrev pub IsWanting : Event → Type 0
@@ -61,7 +40,7 @@ pub record IsTaken (feed : Open) (items : List Shown) (es : List Event) : Type 0
   pub skipped : ℕ
   pub last : ℕ
   pub changes : List (ℕ × Plain)
-  pub took : TookArm feed (said.Batch skipped last changes) es
+  pub took : TookArm feed.arms feed.batch (said.Batch skipped last changes) es
   pub given : items ≡ skipped_item (length took.prior) took.arm skipped last ++ take feed.batch (change_items (length took.prior) took.arm changes)
 
 module _ {PL : Type 0} (k : Talk PL) where
@@ -77,13 +56,13 @@ module _ {PL : Type 0} (k : Talk PL) where
   -- the fault that tells of a dropped table, where a Take of an arm was told so
   pub record TellsDropped (feed : Open) (a : Answer) (es : List Event) : Type 0 where
     pub points : Stamped
-    pub took : TookArm feed said.Gone es
+    pub took : TookArm feed.arms feed.batch said.Gone es
     pub is : a ≡ fitted k (Failed errors.OpFailed took.arm.dropped (Some points))
 
   -- or of a full history
   pub record TellsFull (feed : Open) (a : Answer) (es : List Event) : Type 0 where
     pub count : ℕ
-    pub took : TookArm feed (said.HistoryFull count) es
+    pub took : TookArm feed.arms feed.batch (said.HistoryFull count) es
     pub is : a ≡ fitted k (Failed errors.ResourceLimit full None)
 
   -- An answer to a CONTINUE on the feed, that these events led to: items, the fault of a dropped table or of a full history, or

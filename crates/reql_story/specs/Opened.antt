@@ -1,11 +1,17 @@
--- Whose an open feed is: that of a START of its token, as its plan ended.
-use Rattle.std.specs.Prelude.{◌≡◌, ℕ, Bool, true, false, List, [], ◌∷◌, ◌++◌, flat_map}
+-- Whose an open feed is: that of a START of its token, as its plan ended; and what is left of it.
+use Rattle.std.specs.Prelude.{◌≡◌, ◌⊎◌, ℕ, nat_eq, Bool, true, false, List, [], ◌∷◌, ◌++◌, flat_map, length}
 use Rattle.std.specs.List.{AllByRecursion}
+use Rattle.reql_datum.specs.Plain.{Plain}
 use Rattle.reql_wire.specs.declared.frame.Frame.{Frame}
 use Rattle.reql_shared.specs.Acts.{Ran, Looked}
-use Rattle.reql_story.specs.Requests.{Start, Shown, Feed, Ends, Found, SawNames, Clocked, SawSlot, RanSlot, ChangedNames, Rolled}
+use Rattle.reql_table_machine.specs.declared.command.Said.{Said}
+use Rattle.reql_table_machine.specs.declared.command.Said.TheVariants as said
+use Rattle.reql_write_law.specs.declared.command.Summary.{Summary}
+use Rattle.reql_law.specs.Replies.{Answered as Told}
+use Rattle.reql_law.specs.declared.reply.Saved.{Saved}
+use Rattle.reql_story.specs.Requests.{Arm, Start, Shown, Feed, Ends, Found, SawNames, Clocked, SawSlot, RanSlot, ChangedNames, Rolled}
 use Rattle.reql_story.specs.Books.{Open, is_open, opened}
-use Rattle.reql_story.specs.Tasks.{Talk, batch_size}
+use Rattle.reql_story.specs.Tasks.{Talk, batch_size, take_order, change_items}
 use Rattle.reql_story.specs.Session.{Event, Begin, On, OnNames, Clock, Dice, Come, Mach, fresh, Run}
 
 -- what an event finds for the plan that is under way
@@ -20,6 +26,42 @@ found_by e = []
 
 abbrev pub found_in : List Event → List Found
 found_in es = flat_map found_by es
+
+-- ---- what Takes gave
+-- these events have a Take of the arm, of so many items at most, that was answered so
+pub record Took (arm : Arm) (max : ℕ) (answer : Said Summary Plain) (es : List Event) : Type 0 where
+  pub before : List Event
+  pub after : List Event
+  pub place : ℕ
+  pub reply : Told
+  pub kept : Saved
+  pub events : es ≡ before ++ On arm.slot (Ran place (take_order arm.feed max) reply) kept ∷ after
+  pub says : reply.said ≡ answer
+
+-- of one of these arms, behind others
+pub record TookArm (arms : List Arm) (max : ℕ) (answer : Said Summary Plain) (es : List Event) : Type 0 where
+  pub prior : List Arm
+  pub arm : Arm
+  pub rest : List Arm
+  pub all : arms ≡ prior ++ arm ∷ rest
+  pub took : Took arm max answer es
+
+-- what is left when a front was sent
+abbrev pub IsTail : List Shown → List Shown → Type 0
+IsTail left items = (front : List Shown) × (items ≡ front ++ left)
+
+-- a Take of one of these arms gave what is left, and a front of it
+pub record IsGiven (arms : List Arm) (max : ℕ) (left : List Shown) (es : List Event) : Type 0 where
+  pub skipped : ℕ
+  pub last : ℕ
+  pub changes : List (ℕ × Plain)
+  pub took : TookArm arms max (said.Batch skipped last changes) es
+  pub tail : IsTail left (change_items (length took.prior) took.arm changes)
+
+-- no two of these feeds have a token in common
+abbrev pub AreApart : List Open → Type 0
+AreApart [] = Unit {0}
+AreApart (f ∷ fs) = AllByRecursion (λ (g : Open). nat_eq g.token f.token ≡ false) fs × AreApart fs
 
 module _ {PL : Type 0} (k : Talk PL) where
   -- These events, which led here, have a START of the token, which had nothing open then, for this plan; since it was taken up they
@@ -38,7 +80,8 @@ module _ {PL : Type 0} (k : Talk PL) where
     pub finds : found ≡ found_in during
 
   -- These events opened the feed: a plan that a START of its token asked for came to its end with the feed's arms and notes, and with
-  -- these first items, and the feed's batches have that plan's size.
+  -- these first items, and the feed's batches have that plan's size. What is left of it is a tail of these first items, or of the
+  -- changes that a Take of one of its arms gave since.
   pub record IsOpened (feed : Open) (es : List Event) : Type 0 where
     pub before : List Event
     pub after : List Event
@@ -51,8 +94,9 @@ module _ {PL : Type 0} (k : Talk PL) where
     pub items : List Shown
     pub ends : k.next plan noreply count found ≡ Ends (Feed feed.arms feed.notes items)
     pub batch : feed.batch ≡ batch_size k plan
+    pub left : IsTail feed.left items ⊎ IsGiven feed.arms feed.batch feed.left after
 
-  -- Along every run each feed that is open is that of a plan of its own token: none has arms, notes or batches of another plan, less
-  -- arms than its plan came to, or more.
+  -- Along every run each feed that is open is that of a plan of its own token, and no two have a token in common: none has arms,
+  -- notes or batches of another plan, less arms than its plan came to, or more, nor is anything left of it that isn't its own.
   abbrev pub EachIsOpened : Type 0
-  EachIsOpened = (es : List Event) (m : Mach PL) → Run k fresh es m → AllByRecursion (λ (f : Open). IsOpened f es) m.books.feeds
+  EachIsOpened = (es : List Event) (m : Mach PL) → Run k fresh es m → AllByRecursion (λ (f : Open). IsOpened f es) m.books.feeds × AreApart m.books.feeds

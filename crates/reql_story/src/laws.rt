@@ -44,6 +44,8 @@ pub fn each_is_answered<F: Planning>()
 
 /// Each feed that a session has open is that of a START of its own token, which had nothing open then: the plan that its body
 /// asked for came, by what it found, to its end with just the feed's arms and notes, and the feed's batches have that plan's size.
+/// What is left of it is a tail of the plan's first items, or of the changes that a Take of one of its arms gave since. No two
+/// open feeds have a token in common.
 pub fn each_is_opened<F: Planning>()
     ensures { (f : F) → EachIsOpened (F.talk f) }
 {}
