@@ -18,9 +18,9 @@ use Rattle.reql_story.specs.Books.{Open, Books, feed_of, closed, with_left, saw_
 use Rattle.reql_story.specs.Bodies.{full, at_wait}
 use Rattle.reql_story.specs.Tasks.{Talk, Firm, Stops, Drops, Settled, Task, Planning, Visiting, Telling, Closing, Next, at, close, wanted, denied, is_long, cut, cut_to, fitted, tell, continue_left, continue_feed, continue_on, visit_feed, begin, takes_up, next_arm, batch_of, gone, took_said, took, ran, Runs, Asks, is_empty, skipped_item, change_items, others, take_order, tell_now}
 use Rattle.reql_story.specs.Session.{Event, Turn, Visit, Greeted, Begin, Heard, Lost, Quiet, Finish, Broken, Long, Wear, Poor, On, OnNames, Dice, Clock, Come, Say, Want, Doing, Rest, Visits, Busy, Leaving, Mach, Step, Run, doing_next, goes_on, Plans, PlanDenied, LeavesArm}
-use Rattle.reql_story.specs.Waiting.{IsTakenUp}
+use Rattle.reql_story.specs.Waiting.{IsTakenUp, IsNothing}
 use Rattle.reql_story.specs.Opened.{Took}
-use Rattle.reql_story.specs.Continuing.{IsWithin, IsWanting, IsTaken, TellsItems, IsAnswer, IsItsFirst, EachContinues}
+use Rattle.reql_story.specs.Continuing.{IsWithin, TookNothing, TookFirst, IsWanting, IsTaken, TellsItems, IsAnswer, IsItsFirst, EachContinues}
 use Rattle.reql_story.proofs.Shelves.{found_token}
 use Rattle.reql_story.proofs.Opened.{longer, place_of, took_still}
 
@@ -45,17 +45,26 @@ some_batch : (n : ℕ) (skip changes : List Shown) → is_empty (skip ++ changes
 some_batch n [] changes h le e = some_front n changes h le e
 some_batch n (x ∷ xs) changes h le e = absurd (let z : x ∷ (xs ++ take n changes) ≡ [] = e in cc)
 
+abbrev first_still : (arms : List Arm) (max : ℕ) (answer : Said Summary Plain) (es : List Event) (e : Event) → TookFirst arms max answer es → TookFirst arms max answer (es ++ e ∷ [])
+first_still arms max answer es e t = record { took = took_still arms max answer es e t.took; firsts = t.firsts }
+
 taken_still : (feed : Open) (items : List Shown) (es : List Event) (e : Event) → IsTaken feed items es → IsTaken feed items (es ++ e ∷ [])
-taken_still feed items es e t = record { skipped = t.skipped; last = t.last; changes = t.changes; took = took_still feed.arms feed.batch (said_as.Batch t.skipped t.last t.changes) es e t.took; given = t.given }
+taken_still feed items es e t = record { skipped = t.skipped; last = t.last; changes = t.changes; took = first_still feed.arms feed.batch (said_as.Batch t.skipped t.last t.changes) es e t.took; given = t.given }
+
+-- one more arm was taken from in vain
+nothing_more : (max : ℕ) (prior : List Arm) (arm : Arm) (es : List Event) (e : Event) (place : ℕ) (reply : Told) (kept : Saved) → e ≡ On arm.slot (Ran place (take_order arm.feed max) reply) kept → IsNothing reply.said → TookNothing max prior es
+    → TookNothing max (prior ++ arm ∷ []) (es ++ e ∷ [])
+nothing_more max [] arm es e place reply kept q none h = (place, reply, kept, [], (λ i. h i ++ q i ∷ []), none, refl)
+nothing_more max (a ∷ prior) arm es e place reply kept q none h = (h.0, h.1, h.2, h.3 ++ e ∷ [], ap (λ z. z ++ e ∷ []) h.4, h.5, nothing_more max prior arm h.3 e place reply kept q none h.6)
 
 module _ {PL : Type 0} (k : Talk PL) where
   answer_still : (feed : Open) (a : Answer) (es : List Event) (e : Event) → IsAnswer k feed a es → IsAnswer k feed a (es ++ e ∷ [])
   answer_still feed a es e h = elim h [
     | inl x ↦ inl (record { items = x.items; points = x.points; is = x.is; some = x.some; source = elim x.source [ inl l ↦ inl l | inr t ↦ inr (t.0, taken_still feed x.items es e t.1) ] })
     | inr y ↦ elim y [
-      | inl x ↦ inr (inl (record { points = x.points; took = took_still feed.arms feed.batch said_as.Gone es e x.took; is = x.is }))
+      | inl x ↦ inr (inl (record { points = x.points; took = first_still feed.arms feed.batch said_as.Gone es e x.took; is = x.is }))
       | inr z ↦ elim z [
-        | inl x ↦ inr (inr (inl (record { count = x.count; took = took_still feed.arms feed.batch (said_as.HistoryFull x.count) es e x.took; is = x.is })))
+        | inl x ↦ inr (inr (inl (record { count = x.count; took = first_still feed.arms feed.batch (said_as.HistoryFull x.count) es e x.took; is = x.is })))
         | inr x ↦ inr (inr (inr (x.0, record { before = x.1.before; event = x.1.event; after = x.1.after ++ e ∷ []; events = longer es x.1.before x.1.after x.1.event e x.1.events; is = x.1.is })))
       ]
     ]
@@ -73,6 +82,7 @@ module _ {PL : Type 0} (k : Talk PL) where
       left : feed.left ≡ []
       prior : List Arm
       all : feed.arms ≡ prior ++ arms
+      takes : TookNothing feed.batch prior es
 
     abbrev Tells : ℕ → Answer → Type 0
     Tells u a = (u ≡ token) × IsAnswer k feed a es
@@ -83,6 +93,14 @@ module _ {PL : Type 0} (k : Talk PL) where
     OnTask b (Telling u a kept lose after) = Tells u a
     OnTask b (Closing u arms firm None) = ⊥
     OnTask b (Closing u arms firm (Some a)) = Tells u a
+
+    -- of a task whose further Takes don't matter
+    abbrev Owns : Task PL → Type 0
+    Owns (Planning u plan noreply count found arms) = ⊥
+    Owns (Visiting u arms points) = u ≡ token
+    Owns (Telling u a kept lose after) = Tells u a
+    Owns (Closing u arms firm None) = ⊥
+    Owns (Closing u arms firm (Some a)) = Tells u a
 
     abbrev OnNext : Books → Option (Task PL) → Type 0
     OnNext b None = Unit {0}
@@ -106,9 +124,9 @@ module _ {PL : Type 0} (k : Talk PL) where
         (λ t. close_good (closed u b) u arms Settled (cut_to k a) (h (cut_to k a) (sym (ap (λ c. cond c (cut_to k a) a) t))))
         (λ t. h a (sym (ap (λ c. cond c (cut_to k a) a) t)))
 
-    wanted_good : (b : Books) (u : ℕ) (task : Task PL) → (OnTask b task) → ((v : ℕ) → v ≡ token → Tells v Internal) → Good (wanted b task)
+    wanted_good : (b : Books) (u : ℕ) (task : Task PL) → Owns task → ((v : ℕ) → v ≡ token → Tells v Internal) → Good (wanted b task)
     wanted_good b w (Planning u plan noreply count found arms) h i = absurd h
-    wanted_good b w (Visiting u arms points) h i = i u h.same
+    wanted_good b w (Visiting u arms points) h i = i u h
     wanted_good b w (Telling u a kept None after) h i = i u h.0
     wanted_good b w (Telling u a kept (Some arms) after) h i = close_good (closed u b) u arms Settled Internal (i u h.0)
     wanted_good b w (Closing u arms firm None) h i = absurd h
@@ -116,9 +134,9 @@ module _ {PL : Type 0} (k : Talk PL) where
     wanted_good b w (Closing u arms Stops (Some a)) h i = i u h.0
     wanted_good b w (Closing u arms Drops (Some a)) h i = i u h.0
 
-    denied_good : (b : Books) (task : Task PL) (slot : ℕ) (cmd : Cmd) → OnTask b task → ((v : ℕ) → v ≡ token → Tells v Internal) → Good (denied b task slot cmd)
+    denied_good : (b : Books) (task : Task PL) (slot : ℕ) (cmd : Cmd) → Owns task → ((v : ℕ) → v ≡ token → Tells v Internal) → Good (denied b task slot cmd)
     denied_good b (Planning u plan noreply count found arms) slot cmd h i = absurd h
-    denied_good b (Visiting u arms points) slot cmd h i = i u h.same
+    denied_good b (Visiting u arms points) slot cmd h i = i u h
     denied_good b (Telling u a kept lose after) slot cmd h i = wanted_good b u (Telling u a kept lose after) h i
     denied_good b (Closing u arms firm None) slot cmd h i = absurd h
     denied_good b (Closing u [] firm (Some a)) slot cmd h i = wanted_good b u (Closing u [] firm (Some a)) h i
@@ -128,13 +146,13 @@ module _ {PL : Type 0} (k : Talk PL) where
 
     -- ---- a Take of an arm
     module _ (b : Books) (own : feed.token ≡ token) (its : feed_of token b.feeds ≡ Some feed) (none : feed.left ≡ []) (arm : Arm) (arms prior : List Arm) (all : feed.arms ≡ prior ++ arm ∷ arms) where
-      next_good : (rest : List Arm) (points : List Point) → arms ≡ rest → Good (next_arm k b feed.token rest points)
-      next_good [] points q = tt
-      next_good (x ∷ xs) points q = record { same = own; its = its; left = none; prior = prior ++ arm ∷ []; all = all ∙ ap (λ z. prior ++ arm ∷ z) q ∙ sym (append_assoc prior (arm ∷ []) (x ∷ xs)) }
+      next_good : (rest : List Arm) (points : List Point) → TookNothing feed.batch (prior ++ arm ∷ []) es → arms ≡ rest → Good (next_arm k b feed.token rest points)
+      next_good [] points n q = tt
+      next_good (x ∷ xs) points n q = record { same = own; its = its; left = none; prior = prior ++ arm ∷ []; all = all ∙ ap (λ z. prior ++ arm ∷ z) q ∙ sym (append_assoc prior (arm ∷ []) (x ∷ xs)); takes = n }
 
-      batch_tells : (n : ℕ) (points : Stamped) (skipped last : ℕ) (items : List (ℕ × Plain)) → n ≡ length prior → Took arm feed.batch (said_as.Batch skipped last items) es → is_empty (skipped_item n arm skipped last ++ change_items n arm items) ≡ false
+      batch_tells : (n : ℕ) (points : Stamped) (skipped last : ℕ) (items : List (ℕ × Plain)) → n ≡ length prior → (t : Took arm feed.batch (said_as.Batch skipped last items) es) → TookNothing feed.batch prior t.before → is_empty (skipped_item n arm skipped last ++ change_items n arm items) ≡ false
           → (a : Answer) → a ≡ fitted k (Batch feed.notes (skipped_item n arm skipped last ++ take feed.batch (change_items n arm items)) (Some points)) → TellsItems k feed a es
-      batch_tells n points skipped last items place t full a q = record {
+      batch_tells n points skipped last items place t w full a q = record {
         items = skipped_item n arm skipped last ++ take feed.batch (change_items n arm items);
         points = Some points;
         is = q;
@@ -145,26 +163,26 @@ module _ {PL : Type 0} (k : Talk PL) where
             skipped = skipped;
             last = last;
             changes = items;
-            took = record { prior = prior; arm = arm; rest = arms; all = all; took = t };
+            took = record { took = record { prior = prior; arm = arm; rest = arms; all = all; took = t }; firsts = w };
             given = ap (λ z. skipped_item z arm skipped last ++ take feed.batch (change_items z arm items)) place;
           },
         );
       }
 
-      batch_good : (n : ℕ) (points : List Point) (skipped last : ℕ) (items : List (ℕ × Plain)) → n ≡ length prior → Took arm feed.batch (said_as.Batch skipped last items) es → Good (batch_of k b feed n arm points skipped last items)
-      batch_good n points skipped last items place t = either Good (is_empty (skipped_item n arm skipped last ++ change_items n arm items)) _ _ (λ _. tt)
-          (λ full. tell_good b feed.token _ (with_left feed.token (drop feed.batch (change_items n arm items)) b) feed.arms (Some feed.arms) (λ z q. (own, inl (batch_tells n (stamped b.names points) skipped last items place t full z q))))
+      batch_good : (n : ℕ) (points : List Point) (skipped last : ℕ) (items : List (ℕ × Plain)) → n ≡ length prior → (t : Took arm feed.batch (said_as.Batch skipped last items) es) → TookNothing feed.batch prior t.before → Good (batch_of k b feed n arm points skipped last items)
+      batch_good n points skipped last items place t w = either Good (is_empty (skipped_item n arm skipped last ++ change_items n arm items)) _ _ (λ _. tt)
+          (λ full. tell_good b feed.token _ (with_left feed.token (drop feed.batch (change_items n arm items)) b) feed.arms (Some feed.arms) (λ z q. (own, inl (batch_tells n (stamped b.names points) skipped last items place t w full z q))))
 
-      gone_good : (rest : List Arm) (points : List Point) → Took arm feed.batch said_as.Gone es → Good (gone k b feed arm points rest)
-      gone_good [] points t = (own, inr (inl (record { points = stamped b.names points; took = record { prior = prior; arm = arm; rest = arms; all = all; took = t }; is = refl })))
-      gone_good (x ∷ xs) points t = (own, inr (inl (record { points = stamped b.names points; took = record { prior = prior; arm = arm; rest = arms; all = all; took = t }; is = refl })))
+      gone_good : (rest : List Arm) (points : List Point) → (t : Took arm feed.batch said_as.Gone es) → TookNothing feed.batch prior t.before → Good (gone k b feed arm points rest)
+      gone_good [] points t w = (own, inr (inl (record { points = stamped b.names points; took = record { took = record { prior = prior; arm = arm; rest = arms; all = all; took = t }; firsts = w }; is = refl })))
+      gone_good (x ∷ xs) points t w = (own, inr (inl (record { points = stamped b.names points; took = record { took = record { prior = prior; arm = arm; rest = arms; all = all; took = t }; firsts = w }; is = refl })))
 
-      took_good : (points : List Point) (s : Said Summary Plain) → Took arm feed.batch s es → Good (took_said k b feed arm arms points s)
-      took_good points (said_as.Batch skipped last items) t = batch_good (length feed.arms - length (arm ∷ arms)) points skipped last items (ap (λ z. length z - length (arm ∷ arms)) all ∙ place_of prior arms arm) t
-      took_good points said_as.Gone t = gone_good (others arm feed.arms) points t
-      took_good points (said_as.HistoryFull count) t = close_good (closed feed.token b) feed.token feed.arms Settled _
-          (own, inr (inr (inl (record { count = count; took = record { prior = prior; arm = arm; rest = arms; all = all; took = t }; is = refl }))))
-      took_good points other t = next_good arms points refl
+      took_good : (points : List Point) (s : Said Summary Plain) → (t : Took arm feed.batch s es) → TookNothing feed.batch prior t.before → (IsNothing s → TookNothing feed.batch (prior ++ arm ∷ []) es) → Good (took_said k b feed arm arms points s)
+      took_good points (said_as.Batch skipped last items) t w n = batch_good (length feed.arms - length (arm ∷ arms)) points skipped last items (ap (λ z. length z - length (arm ∷ arms)) all ∙ place_of prior arms arm) t w
+      took_good points said_as.Gone t w n = gone_good (others arm feed.arms) points t w
+      took_good points (said_as.HistoryFull count) t w n = close_good (closed feed.token b) feed.token feed.arms Settled _
+          (own, inr (inr (inl (record { count = count; took = record { took = record { prior = prior; arm = arm; rest = arms; all = all; took = t }; firsts = w }; is = refl }))))
+      took_good points other t w n = next_good arms points (n tt) refl
 
     -- ---- where it is taken up, or visited
     left_tells : (x : Shown) (xs : List Shown) → feed.left ≡ x ∷ xs → (a : Answer) → a ≡ fitted k (Batch feed.notes (take feed.batch (x ∷ xs)) None) → TellsItems k feed a es
@@ -176,9 +194,9 @@ module _ {PL : Type 0} (k : Talk PL) where
       source = inl (λ none. absurd (let z : x ∷ xs ≡ [] = sym q ∙ none in cc), ap (λ z. take feed.batch z) (sym q));
     }
 
-    left_good : (b : Books) (left : List Shown) → feed.token ≡ token → feed_of token b.feeds ≡ Some feed → feed.left ≡ left → Good (continue_left k b feed left)
-    left_good b [] own its q = record { same = own; its = its; left = q; prior = []; all = refl }
-    left_good b (x ∷ xs) own its q = tell_good b feed.token _ (with_left feed.token (drop feed.batch (x ∷ xs)) b) feed.arms None (λ z e. (own, inl (left_tells x xs q z e)))
+    left_good : (b : Books) (left : List Shown) → es ≡ [] → feed.token ≡ token → feed_of token b.feeds ≡ Some feed → feed.left ≡ left → Good (continue_left k b feed left)
+    left_good b [] start own its q = record { same = own; its = its; left = q; prior = []; all = refl; takes = start }
+    left_good b (x ∷ xs) start own its q = tell_good b feed.token _ (with_left feed.token (drop feed.batch (x ∷ xs)) b) feed.arms None (λ z e. (own, inl (left_tells x xs q z e)))
 
   -- ---- a step
   module _ (token : ℕ) (feed : Open) (es : List Event) (m n : Mach PL) (e : Event) where
@@ -203,10 +221,9 @@ module _ {PL : Type 0} (k : Talk PL) where
       task_at : (back : Option (List ℕ)) (task : Task PL) → m.doing ≡ Busy back task → OnTask token feed es m.books task
       task_at back task d = subst (OnDoing token feed es m.books) d h
 
-      -- the same, with one more event
-      task_still : (task : Task PL) → OnTask token feed es m.books task → OnTask token feed now m.books task
+      task_still : (task : Task PL) → OnTask token feed es m.books task → Owns token feed now task
       task_still (Planning u plan noreply count found arms) t = absurd t
-      task_still (Visiting u arms points) t = record { same = t.same; its = t.its; left = t.left; prior = t.prior; all = t.all }
+      task_still (Visiting u arms points) t = t.same
       task_still (Telling u a kept lose after) t = (t.0, answer_still feed a es e t.1)
       task_still (Closing u arms firm None) t = absurd t
       task_still (Closing u arms firm (Some a)) t = (t.0, answer_still feed a es e t.1)
@@ -238,9 +255,12 @@ module _ {PL : Type 0} (k : Talk PL) where
       let same : x.0 ≡ feed = some_is x.0 feed (sym x.1 ∙ its) in
       let own : feed.token ≡ token = eqb-true feed.token token (found_token 0 0 false token b.feeds feed t.its) in
       let takes : order ≡ take_order arm.feed feed.batch = x.3 ∙ ap (λ (z : Open). take_order arm.feed z.batch) same in
-      subst (λ o. Good token feed (es ++ On slot (Ran place order reply) saved ∷ []) (took k b u arm arms points reply o)) (sym its)
-      (took_good token feed (es ++ On slot (Ran place order reply) saved ∷ []) b own t.its t.left arm arms t.prior t.all _ reply.said
-      (record { before = es; after = []; place = place; reply = reply; kept = saved; events = λ i. es ++ On (x.2 i) (Ran place (takes i) reply) saved ∷ []; says = refl }))
+      let e : Event = On slot (Ran place order reply) saved in
+      let is : e ≡ On arm.slot (Ran place (take_order arm.feed feed.batch) reply) saved = λ i. On (x.2 i) (Ran place (takes i) reply) saved in
+      subst (λ o. Good token feed (es ++ e ∷ []) (took k b u arm arms points reply o)) (sym its)
+      (took_good token feed (es ++ e ∷ []) b own t.its t.left arm arms t.prior t.all _ reply.said
+      (record { before = es; after = []; place = place; reply = reply; kept = saved; events = ap (λ z. es ++ z ∷ []) is; says = refl }) t.takes
+      (λ none. nothing_more feed.batch t.prior arm es e place reply saved is none t.takes))
   ran_now token feed es b (Telling u a kept lose after) slot place order reply saved x t = absurd x
   ran_now token feed es b (Closing u arms firm None) slot place order reply saved x t = absurd t
   ran_now token feed es b (Closing u [] firm (Some a)) slot place order reply saved x t = absurd x
@@ -290,7 +310,7 @@ module _ {PL : Type 0} (k : Talk PL) where
   begun m n token feed back x g its =
       let own : feed.token ≡ token = eqb-true feed.token token (found_token 0 0 false token m.books.feeds feed its) in
       let y : Next PL = continue_left k m.books feed feed.left in
-      subst (λ (z : Mach PL). OnDoing token feed [] z.books z.doing) (sym g) (fits y.books back y.task (left_good token feed [] m.books feed.left own its refl))
+      subst (λ (z : Mach PL). OnDoing token feed [] z.books z.doing) (sym g) (fits y.books back y.task (left_good token feed [] m.books feed.left refl own its refl))
     where
       fits : (b : Books) (back : Option (List ℕ)) (task : Option (Task PL)) → OnNext token feed [] b task → OnDoing token feed [] b (doing_next back task)
       fits b None None f = tt

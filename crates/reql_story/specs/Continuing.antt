@@ -4,15 +4,19 @@ use Rattle.std.specs.List.{AllByRecursion}
 use Rattle.reql_datum.specs.Plain.{Plain}
 use Rattle.reql_answer.specs.Body.{Stamped}
 use Rattle.reql_answer.specs.declared.error.ErrorType.TheVariants as errors
-use Rattle.reql_shared.specs.Acts.{Denied}
+use Rattle.reql_shared.specs.Acts.{Ran, Denied}
+use Rattle.reql_table_machine.specs.declared.command.Said.{Said}
 use Rattle.reql_table_machine.specs.declared.command.Said.TheVariants as said
-use Rattle.reql_story.specs.Requests.{Shown, Answer, Failed, Internal, Batch}
+use Rattle.reql_write_law.specs.declared.command.Summary.{Summary}
+use Rattle.reql_law.specs.Replies.{Answered as Told}
+use Rattle.reql_law.specs.declared.reply.Saved.{Saved}
+use Rattle.reql_story.specs.Requests.{Arm, Shown, Answer, Failed, Internal, Batch}
 use Rattle.reql_story.specs.Books.{Open, has_token, cursor_of, feed_of}
 use Rattle.reql_story.specs.Bodies.{full}
-use Rattle.reql_story.specs.Tasks.{Talk, skipped_item, change_items, fitted}
+use Rattle.reql_story.specs.Tasks.{Talk, skipped_item, change_items, fitted, take_order}
 use Rattle.reql_story.specs.Session.{Event, Turn, Visit, Begin, On, Say, Want, Mach, Step, Run}
 use Rattle.reql_story.specs.Opened.{TookArm}
-use Rattle.reql_story.specs.Waiting.{IsTakenUp}
+use Rattle.reql_story.specs.Waiting.{IsTakenUp, IsNothing}
 
 -- no turn and no visit begins, no frame is taken, and no answer is sent
 abbrev pub IsWithin : Event → Type 0
@@ -21,6 +25,16 @@ IsWithin Visit = ⊥
 IsWithin (Begin frame is_read) = ⊥
 IsWithin (Say token a whole) = ⊥
 IsWithin e = Unit {0}
+
+-- these events are one Take of each of these arms, in their order, of so many items at most, and each found nothing
+abbrev pub TookNothing : ℕ → List Arm → List Event → Type 0
+TookNothing max [] es = es ≡ []
+TookNothing max (arm ∷ arms) es = (place : ℕ) × (reply : Told) × (kept : Saved) × (more : List Event) × (es ≡ On arm.slot (Ran place (take_order arm.feed max) reply) kept ∷ more) × IsNothing reply.said × TookNothing max arms more
+
+-- they begin with Takes of the arms, in their order, each of which found nothing, up to one that was answered so
+pub record TookFirst (arms : List Arm) (max : ℕ) (answer : Said Summary Plain) (es : List Event) : Type 0 where
+  pub took : TookArm arms max answer es
+  pub firsts : TookNothing max took.prior took.took.before
 
 -- memory was wanted, of the session or of a table
 abbrev pub IsWanting : Event → Type 0
@@ -35,17 +49,17 @@ pub record WasWanted (es : List Event) : Type 0 where
   pub events : es ≡ before ++ event ∷ after
   pub is : IsWanting event
 
--- the items of a batch that a Take of an arm of the feed gave, with what it tells of skipped ones
+-- the items of a batch that a Take of the feed's first arm that has any gave, with what it tells of skipped ones
 pub record IsTaken (feed : Open) (items : List Shown) (es : List Event) : Type 0 where
   pub skipped : ℕ
   pub last : ℕ
   pub changes : List (ℕ × Plain)
-  pub took : TookArm feed.arms feed.batch (said.Batch skipped last changes) es
-  pub given : items ≡ skipped_item (length took.prior) took.arm skipped last ++ take feed.batch (change_items (length took.prior) took.arm changes)
+  pub took : TookFirst feed.arms feed.batch (said.Batch skipped last changes) es
+  pub given : items ≡ skipped_item (length took.took.prior) took.took.arm skipped last ++ take feed.batch (change_items (length took.took.prior) took.took.arm changes)
 
 module _ {PL : Type 0} (k : Talk PL) where
-  -- A batch, or the fault of one that is too long, of items that were left of the feed, or where nothing was left of what a Take of
-  -- one of its arms gave. There is an item at least where batches of the feed have one.
+  -- A batch, or the fault of one that is too long, of items that were left of the feed, or where nothing was left of what the first
+  -- Take that found something gave. There is an item at least where batches of the feed have one.
   pub record TellsItems (feed : Open) (a : Answer) (es : List Event) : Type 0 where
     pub items : List Shown
     pub points : Option Stamped
@@ -56,13 +70,13 @@ module _ {PL : Type 0} (k : Talk PL) where
   -- the fault that tells of a dropped table, where a Take of an arm was told so
   pub record TellsDropped (feed : Open) (a : Answer) (es : List Event) : Type 0 where
     pub points : Stamped
-    pub took : TookArm feed.arms feed.batch said.Gone es
-    pub is : a ≡ fitted k (Failed errors.OpFailed took.arm.dropped (Some points))
+    pub took : TookFirst feed.arms feed.batch said.Gone es
+    pub is : a ≡ fitted k (Failed errors.OpFailed took.took.arm.dropped (Some points))
 
   -- or of a full history
   pub record TellsFull (feed : Open) (a : Answer) (es : List Event) : Type 0 where
     pub count : ℕ
-    pub took : TookArm feed.arms feed.batch (said.HistoryFull count) es
+    pub took : TookFirst feed.arms feed.batch (said.HistoryFull count) es
     pub is : a ≡ fitted k (Failed errors.ResourceLimit full None)
 
   -- An answer to a CONTINUE on the feed, that these events led to: items, the fault of a dropped table or of a full history, or

@@ -62,9 +62,10 @@ pub fn starts_to_wait<F: Planning>()
 {}
 
 /// Where a CONTINUE on an open feed is taken up, or visited, the next answer, with no turn, visit or frame before it, has its
-/// token. It tells of what was left of the feed, or where nothing was left of what a Take of one of its arms gave, of an item at
-/// least where batches have one; or it is the fault of such an answer that is too long, of a table of which a Take was told that
-/// it was dropped, or of a history of which one was told that it is full; or INTERNAL, where memory was wanted.
+/// token. It tells of what was left of the feed; or, where nothing was left, of what the first Take gave that found something,
+/// of the feed's arms in their order; and of an item at least where batches have one. Or it is the fault of such an answer that
+/// is too long, of a table of which the first such Take was told that it was dropped, or of a history of which it was told that
+/// it is full; or INTERNAL, where memory was wanted.
 pub fn each_continues<F: Planning>()
     ensures { (f : F) → EachContinues (F.talk f) }
 {}
