@@ -35,7 +35,7 @@ use Rattle.reql_story.specs.Requests.{Arm, Sort, Opening, State as StateItem, Sk
 use Rattle.reql_story.specs.Tasks.{Talk}
 use Rattle.reql_story.specs.Minding.{PlansMind}
 use Rattle.reql_story.specs.Session.{Event, Turn, Visit, Greeted, Begin, Heard, Lost, Quiet, Finish, Broken, Long, Wear, Poor, On, OnNames, Dice, Clock, Come, Say, Want, Run, fresh, acts_of, acts_on}
-use Rattle.reql_story.specs.Explained.{DeskShare, DeskSeen, Life, if_change, change_of, changes_in, sent_in, sent_by, sent_of, if_told, told_item, told_items, told_in, told_by, all_told, taken_in, all_taken}
+use Rattle.reql_story.specs.Explained.{DeskShare, DeskSeen, Life, if_change, changes_in, sent_in, sent_by, sent_of, if_told, told_items, told_in, told_by, all_told, taken_in, all_taken}
 use Rattle.reql_story.specs.Laws.{Opens, items_after, SendsSkips}
 use Rattle.reql_story.proofs.Sendings.{NotOpened}
 use Rattle.reql_story.proofs.Fronts.{NotOpens, known_on, front}
@@ -189,16 +189,22 @@ module _ {PL : Type 0} (k : Talk PL) (on : PL → Bool → ℕ → List Found �
         flat_map-append (acts_of σ) o.before (On σ (Ran o.place o.order o.reply) o.kept ∷ after) ∙ ap (λ b. acts_on σ o.before ++ (cond b (Ran o.place o.order o.reply ∷ []) [] ++ acts_on σ after)) (eq-eqb σ σ refl) in
         ap (map known_act) (ap (acts_on σ) o.events ∙ split_at) ∙ map-append known_act (acts_on σ o.before) (Ran o.place o.order o.reply ∷ acts_on σ after)
 
-    -- what was sent is a front of what its Takes gave
-    sends : (skips : Bool) → (unsent : List (ℕ × Plain)) × (all_told σ φ skips after ++ unsent ≡ all_taken skips (takings φ (known_on σ after)))
-    sends skips =
+    -- no other feed is opened with its number
+    pub no_others : (skips : Bool) → AllByRecursion (NotOpens k on σ φ skips) o.before × AllByRecursion (NotOpens k on σ φ skips) after
+    no_others skips =
         let part : Part Order State = share.slots σ in
         let now : State = replay machine start part.before in
         let rise : OpensFrom now.table.place (known_on σ o.before ++ Ran o.place (known_order o.order) o.reply ∷ known_on σ after) =
         subst (OpensFrom now.table.place) known (numbers_rise (feeding now.most) index_opens_none _ part.number (length part.before) now.table (known_on σ o.story.explained.events) (map known_entry part.during)
         (woven_known now part.number (length part.before) (acts_on σ o.story.explained.events) part.during (o.story.explained.slots σ).woven)) in
         let others = apart now.table.place φ (known_on σ o.before) (known_on σ after) (Ran o.place (known_order o.order) o.reply) (ap (λ z. number_in z) o.says) rise in
-        front k on σ φ skips well o.story.explained.final o.before after o.place o.order o.reply o.kept o.spec o.opening o.asks o.says (all_not k on σ φ skips o.before others.0) (all_not k on σ φ skips after others.1)
+        (all_not k on σ φ skips o.before others.0, all_not k on σ φ skips after others.1)
+
+    -- what was sent is a front of what its Takes gave
+    sends : (skips : Bool) → (unsent : List (ℕ × Plain)) × (all_told σ φ skips after ++ unsent ≡ all_taken skips (takings φ (known_on σ after)))
+    sends skips =
+        let others = no_others skips in
+        front k on σ φ skips well o.story.explained.final o.before after o.place o.order o.reply o.kept o.spec o.opening o.asks o.says others.0 others.1
         (subst (λ z. Run k fresh z o.story.explained.final) o.events o.story.explained.run)
 
     lies : history ≡ (share.slots σ).before ++ ((share.slots σ).during ++ (o.story.lies.slots σ).later)

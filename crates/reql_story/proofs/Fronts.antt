@@ -158,7 +158,7 @@ module _ {PL : Type 0} (k : Talk PL) (on : PL → Bool → ℕ → List Found �
     ]
 
     -- the Takes of an event and of those after it
-    takings_step : (e : E) (es : List E) → all_taken skips (takings φ (known_on σ (e ∷ es))) ≡ cond (over_in e) [] (new_in e ++ all_taken skips (takings φ (known_on σ es)))
+    pub takings_step : (e : E) (es : List E) → all_taken skips (takings φ (known_on σ (e ∷ es))) ≡ cond (over_in e) [] (new_in e ++ all_taken skips (takings φ (known_on σ es)))
     takings_step (On slot (Ran place order r) saved) es =
         split (nat_eq slot σ) (λ b. all_taken skips (takings φ (map known_act (cond b (Ran place order r ∷ []) [] ++ acts_on σ es))) ≡ cond (b && is_end φ (known_cmd order.cmd)) [] (cond b (all_taken skips (taking_by φ (known_cmd order.cmd) r)) [] ++ all_taken skips (takings φ (known_on σ es))))
         (λ _. split (is_end φ (known_cmd order.cmd)) (λ d. all_taken skips (cond d [] (taking_by φ (known_cmd order.cmd) r ++ takings φ (known_on σ es))) ≡ cond d [] (all_taken skips (taking_by φ (known_cmd order.cmd) r) ++ all_taken skips (takings φ (known_on σ es))))

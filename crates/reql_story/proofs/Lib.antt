@@ -8,6 +8,7 @@ pub mod Going
 pub mod Idling
 pub mod Opened
 pub mod Orders
+pub mod Owed
 pub mod Overs
 pub mod Rests
 pub mod Sendings

@@ -7,6 +7,7 @@ pub mod Explained
 pub mod Minding
 pub mod Worlds
 pub mod Laws
+pub mod Owed
 pub mod Answering
 pub mod Opened
 pub mod Waiting

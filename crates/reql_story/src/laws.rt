@@ -5,6 +5,7 @@ ghost use Rattle.reql_story.specs.Continuing.{EachContinues};
 ghost use Rattle.reql_story.specs.Explained.{ExplainedBy};
 ghost use Rattle.reql_story.specs.Laws.{InOrder, FramesHandled, WornLate, FirstFailed, ValidCloses, OneMore, Learning, NothingLeft, FeedsHold, SkipsAreSent};
 ghost use Rattle.reql_story.specs.Opened.{EachIsOpened};
+ghost use Rattle.reql_story.specs.Owed.{NothingKeptBack};
 ghost use Rattle.reql_story.specs.Waiting.{StartsToWait, WaitsOn, NothingWasThere};
 
 use crate::planning::Planning;
@@ -101,4 +102,10 @@ pub fn feeds_hold<F: Planning>()
 /// what the answers of its Takes give, in their order; and these tell just what its queue skipped.
 pub fn skips_are_sent<F: Planning>()
     ensures { (f : F) → SkipsAreSent (F.talk f) }
+{}
+
+/// Every feed of an explained session, wherever it is open: of what the answers of its Takes gave, what was not sent is what the
+/// answer that is being told has of it, and then what the books keep to be sent; so where neither is, everything was sent.
+pub fn nothing_kept_back<F: Planning>()
+    ensures { (f : F) → NothingKeptBack (F.talk f) }
 {}
