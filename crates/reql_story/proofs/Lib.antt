@@ -9,6 +9,7 @@ pub mod Idling
 pub mod Opened
 pub mod Orders
 pub mod Owed
+pub mod Printed
 pub mod Overs
 pub mod Rests
 pub mod Sendings

@@ -8,6 +8,7 @@ pub mod Minding
 pub mod Worlds
 pub mod Laws
 pub mod Owed
+pub mod Printed
 pub mod Answering
 pub mod Opened
 pub mod Waiting

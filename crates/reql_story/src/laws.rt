@@ -6,6 +6,7 @@ ghost use Rattle.reql_story.specs.Explained.{ExplainedBy};
 ghost use Rattle.reql_story.specs.Laws.{InOrder, FramesHandled, WornLate, FirstFailed, ValidCloses, OneMore, Learning, NothingLeft, FeedsHold, SkipsAreSent};
 ghost use Rattle.reql_story.specs.Opened.{EachIsOpened};
 ghost use Rattle.reql_story.specs.Owed.{NothingKeptBack};
+ghost use Rattle.reql_story.specs.Printed.{FeedsAreTold, BatchesAreOfFeeds, TakesAreOfFeeds};
 ghost use Rattle.reql_story.specs.Waiting.{StartsToWait, WaitsOn, NothingWasThere};
 
 use crate::planning::Planning;
@@ -108,4 +109,15 @@ pub fn skips_are_sent<F: Planning>()
 /// answer that is being told has of it, and then what the books keep to be sent; so where neither is, everything was sent.
 pub fn nothing_kept_back<F: Planning>()
     ensures { (f : F) → NothingKeptBack (F.talk f) }
+{}
+
+/// Wherever a token has an open feed, a plan came to it, since when it has been open: all that was said with the token from there
+/// on, and then what is still to be said, in the answer that is being told and in the books, is the plan's first items and then
+/// what the answers of its Takes give, in order, the item of a skip ahead of its batch. It is so of each item as it is printed,
+/// with its arm's place among the plan's, whatever its sort; and each batch has the plan's notes. A batch is said only with a token
+/// that has an open feed, and every Take is asked for by one whose feed has that arm.
+pub fn feeds_are_told<F: Planning>()
+    ensures told { (f : F) → FeedsAreTold (F.talk f) }
+    ensures of_feeds { (f : F) → BatchesAreOfFeeds (F.talk f) }
+    ensures takes { (f : F) → TakesAreOfFeeds (F.talk f) }
 {}
