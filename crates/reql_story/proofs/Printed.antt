@@ -1,5 +1,6 @@
 -- All that is said of a feed, kept along a run.
 use Rattle.std.proofs.Common.{◌≡◌, ◌⊎◌, ◌+◌, ◌-◌, inl, inr, ℕ, suc, Bool, true, false, true≢false, cond, not, ◌&&◌, ◌||◌, filter, map, List, [], ◌∷◌, ◌++◌, take, drop, length, Option, Some, None, refl, sym, ap, subst, ◌∙◌, arith, append_assoc, append-nil, length-append}
+use Rattle.std.specs.List.{AllByRecursion}
 use Rattle.std.specs.Prelude.{nat_eq, nat_le, is_some}
 use Rattle.std.proofs.lemmas.Bool.{eqb-true, eq-eqb}
 use Rattle.std.proofs.lemmas.Grind.{flat_map-append}
@@ -25,8 +26,9 @@ use Rattle.reql_story.specs.Tasks.{Talk, Firm, Stops, Drops, Settled, Task, Plan
 use Rattle.reql_story.specs.Bodies.{full}
 use Rattle.reql_story.specs.Minding.{has_arm, are_apart, Minds, IsOther, PlansMind}
 use Rattle.reql_story.specs.Session.{Event, Turn, Visit, Greeted, Begin, Heard, Lost, Quiet, Finish, Broken, Long, Wear, Poor, On, OnNames, Dice, Clock, Come, Say, Want, Doing, Rest, Visits, Busy, Leaving, Mach, fresh, Step, Run, doing_next, goes_on, PlanEnds}
+use Rattle.reql_story.specs.Waiting.{IsNothing, IsBare, FoundNothing, IsTakenUp}
 use Rattle.reql_story.specs.Owed.{keeps, IsHere}
-use Rattle.reql_story.specs.Printed.{items_in, said_by, all_said, AreNotes, HasNotes, printed, printed_from, given_by, left_of, task_asks, is_asking, taken_at, saying, due, IsOpenAt, StaysOpen, all_given, IsTold, FeedsAreTold, BatchesAreOfFeeds, TakesAreOfFeeds}
+use Rattle.reql_story.specs.Printed.{items_in, said_by, all_said, AreNotes, HasNotes, printed, printed_from, given_by, left_of, task_asks, is_asking, taken_at, saying, due, IsOpenAt, StaysOpen, all_given, IsTold, FeedsAreTold, BatchesAreOfFeeds, TakesAreOfFeeds, AllIsSaid}
 use Rattle.reql_story.proofs.Shelves.{which, or_false, found_token}
 
 either : {A : Type 0} (P : A → Type 0) (x : Bool) (y z : A) → (x ≡ true → P y) → (x ≡ false → P z) → P (cond x y z)
@@ -1005,7 +1007,88 @@ module _ {PL : Type 0} (k : Talk PL) (on : PL → Bool → ℕ → List Found �
     ]
   ]
 
+-- ---- nothing is said or given
+none_printed : (n : ℕ) (arm : Arm) (s : Said Summary Plain) → IsNothing s ⊎ IsBare s → printed n arm s ≡ []
+none_printed n arm (said_as.Batch skipped last items) (inl h) = absurd h
+none_printed n arm (said_as.Batch skipped last items) (inr h) = λ i. skipped_item n arm (h.0 i) last ++ change_items n arm (h.1 i)
+none_printed n arm other h = refl
+
+none_from : (n : ℕ) (arms : List Arm) (slot feed : ℕ) (s : Said Summary Plain) → IsNothing s ⊎ IsBare s → printed_from n arms slot feed s ≡ []
+none_from n [] slot feed s h = refl
+none_from n (arm ∷ arms) slot feed s h = split (nat_eq arm.slot slot && nat_eq arm.feed feed) (λ b. cond b (printed n arm s) (printed_from (suc n) arms slot feed s) ≡ []) (λ _. none_printed n arm s h) (λ _. none_from (suc n) arms slot feed s h)
+
+module _ {PL : Type 0} (k : Talk PL) (on : PL → Bool → ℕ → List Found → List Arm → Type 0) (well : PlansMind k on) (τ : ℕ) (A : List Arm) (N : List ℕ) (apart : are_apart A ≡ true) where
+  abbrev IsCome : Event → Bool
+  IsCome Come = true
+  IsCome other = false
+
+  record Quiets (e : Event) : Type 0 where
+    says : said_by τ e ≡ []
+    gives : (d : Doing PL) → taken_at τ A d e ≡ []
+    other : IsCome e ≡ false
+
+  found_quiet : (max : ℕ) (arms : List Arm) (es : List Event) → FoundNothing max arms es → AllByRecursion Quiets es
+  found_quiet max [] es h = subst (AllByRecursion Quiets) (sym h) tt
+  found_quiet max (arm ∷ arms) es h =
+      let place : ℕ = h.0 in
+      let reply : Told = h.1 in
+      let none : IsNothing reply.said ⊎ IsBare reply.said = elim h.5 [ inl a ↦ inl a.0 | inr a ↦ inr a.0 ] in
+      let gives : (d : Doing PL) → taken_at τ A d (On arm.slot (Ran place (take_order arm.feed max) reply) h.2) ≡ [] =
+      λ d. split (is_asking τ d) (λ b. cond b (printed_from 0 A arm.slot arm.feed reply.said) [] ≡ []) (λ _. none_from 0 A arm.slot arm.feed reply.said none) (λ _. refl) in
+      subst (AllByRecursion Quiets) (sym h.4)
+      (record { says = refl; gives = gives; other = refl }, elim h.5 [ inl a ↦ found_quiet max arms h.3 a.1 | inr a ↦ subst (AllByRecursion Quiets) (sym a.1) tt ])
+
+  -- what is still to be said stays nothing
+  abbrev Done : Mach PL → Type 0
+  Done m = FitM k on τ A N well apart m None ⊎ FitM k on τ A N well apart m (Some [])
+
+  one_more : (m n : Mach PL) (e : Event) → Quiets e → Step k m e n → Done m → Done n
+  one_more m n e q s (inl h) = elim (step_fits k on τ A N well apart m n e None h s) [
+    | inl g ↦ elim g.goes [ inl z ↦ inl (subst (λ w. FitM k on τ A N well apart n w) z g.fits) | inr z ↦ absurd (let w : None ≡ Some z.0 = z.2 in cc) ]
+    | inr g ↦ absurd (true≢false (sym (ap IsCome g.0) ∙ q.other))
+  ]
+  one_more m n e q s (inr h) = elim (step_fits k on τ A N well apart m n e (Some []) h s) [
+    | inl g ↦ elim g.goes [
+      | inl z ↦ inl (subst (λ w. FitM k on τ A N well apart n w) z g.fits)
+      | inr z ↦ (let p : z.0 ≡ [] = ap (λ w. list_of k on τ A N w) (sym z.2) in
+          let now : z.1 ≡ [] = ap (λ w. w ++ z.1) (sym q.says) ∙ z.4 ∙ (λ i. p i ++ q.gives m.doing i) in
+          inr (subst (λ w. FitM k on τ A N well apart n w) (z.3 ∙ ap (λ w. Some w) now) g.fits))
+    ]
+    | inr g ↦ absurd (true≢false (sym (ap IsCome g.0) ∙ q.other))
+  ]
+
+  all_done : (m n : Mach PL) (es : List Event) → AllByRecursion Quiets es → Run k m es n → Done m → Done n
+  all_done m n [] q r d = subst Done (sym r) d
+  all_done m n (e ∷ es) q r d = all_done r.0 n es q.1 r.2 (one_more m r.0 e q.0 r.1 d)
+
+  -- where a CONTINUE is taken up, its feed is found in the books
+  taken_up : (m n : Mach PL) (e : Event) → IsTakenUp k τ m e → Step k m e n → (left : List ℕ) × (m.doing ≡ Visits left) × Quiets e
+  taken_up m n Visit t s = (τ ∷ t.0, t.1, record { says = refl; gives = λ d. refl; other = refl })
+  taken_up m n (Begin frame true) t s = ([], s.1, record { says = refl; gives = λ d. refl; other = refl })
+  taken_up m n (Begin frame false) t s = absurd t
+  taken_up m n other t s = absurd t
+
+  nothing_due : (m start : Mach PL) (first : Event) (takes : List Event) (f : Open) (v : Option (List Shown)) → FitM k on τ A N well apart start v → IsTakenUp k τ start first → Run k start (first ∷ takes) m
+      → feed_of τ start.books.feeds ≡ Some f → f.left ≡ [] → FoundNothing f.batch f.arms takes → IsOpenAt τ m → due τ m ≡ []
+  nothing_due m start first takes f v fits t r its left found here =
+      let up = taken_up start r.0 first t r.1 in
+      let w = own_of k on τ A N start.books f v its (at_doing k on τ A N well apart start (Visits up.0) v up.1 fits) in
+      let none : v ≡ Some [] = w.1 ∙ ap (λ z. Some z) (sym w.2.left ∙ left) in
+      elim (all_done start m (first ∷ takes) (up.2, found_quiet f.batch f.arms takes found) r (inr (subst (λ z. FitM k on τ A N well apart start z) none fits))) [
+        | inl h ↦ absurd (not_open k on τ A N well apart m.books m.doing h here)
+        | inr h ↦ (open_by k on τ A N well apart m.books m.doing [] h).1
+      ]
+
 module _ {PL : Type 0} (k : Talk PL) (on : PL → Bool → ℕ → List Found → List Arm → Type 0) (well : PlansMind k on) where
+  pub all_is_said : AllIsSaid k
+  all_is_said es m token e o =
+      let a = e.asks in
+      let run : Run k e.start (a.first ∷ a.takes) m = subst (λ z. Run k e.start z m) a.events a.run in
+      elim (kept k on well token e.before e.start e.led).state [
+        | inl d ↦ nothing_due k on well token d.arms d.notes d.apart m e.start a.first a.takes a.feed None d.fits a.begins run a.its a.left a.found o
+        | inr l ↦ nothing_due k on well token l.told.arms l.told.notes l.told.apart m e.start a.first a.takes a.feed (Some l.p) l.fits a.begins run a.its a.left a.found o
+      ]
+
   pub takes_are_of_feeds : TakesAreOfFeeds k
   takes_are_of_feeds es m n r slot place order reply saved (inl s) feed max c = by_task s.task s.doing s.runs
     where

@@ -17,6 +17,7 @@ use Rattle.reql_story.specs.Books.{Open, feed_of}
 use Rattle.reql_story.specs.Tasks.{Talk, Task, Visiting, Telling, skipped_item, change_items}
 use Rattle.reql_story.specs.Minding.{has_arm, are_apart}
 use Rattle.reql_story.specs.Session.{Event, On, Come, Say, Doing, Busy, Mach, fresh, PlanEnds, Step, Run}
+use Rattle.reql_story.specs.Waiting.{EndsInVain}
 use Rattle.reql_story.specs.Owed.{keeps, IsHere}
 
 -- the printed items of an answer, and all those that were said with a token, whatever they are and of whatever arm
@@ -138,3 +139,7 @@ module _ {PL : Type 0} (k : Talk PL) where
   abbrev pub TakesAreOfFeeds : Type 0
   TakesAreOfFeeds = (es : List Event) (m n : Mach PL) → Run k fresh es m → (slot place : ℕ) (order : Order) (reply : Told) (saved : Saved) → Step k m (On slot (Ran place order reply) saved) n
       → (feed max : ℕ) → order.cmd ≡ cmds.Take feed max → (token : ℕ) × (is_asking token m.doing ≡ true) × (t : IsTold token es m) × (has_arm slot feed t.arms ≡ true)
+
+  -- Where a token comes to wait, all of its feed was said: its plan's first items, and what its Takes gave.
+  abbrev pub AllIsSaid : Type 0
+  AllIsSaid = (es : List Event) (m : Mach PL) (token : ℕ) → EndsInVain k token es m → IsOpenAt token m → due token m ≡ []

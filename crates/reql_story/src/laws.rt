@@ -6,7 +6,7 @@ ghost use Rattle.reql_story.specs.Explained.{ExplainedBy};
 ghost use Rattle.reql_story.specs.Laws.{InOrder, FramesHandled, WornLate, FirstFailed, ValidCloses, OneMore, Learning, NothingLeft, FeedsHold, SkipsAreSent};
 ghost use Rattle.reql_story.specs.Opened.{EachIsOpened};
 ghost use Rattle.reql_story.specs.Owed.{NothingKeptBack};
-ghost use Rattle.reql_story.specs.Printed.{FeedsAreTold, BatchesAreOfFeeds, TakesAreOfFeeds};
+ghost use Rattle.reql_story.specs.Printed.{FeedsAreTold, BatchesAreOfFeeds, TakesAreOfFeeds, AllIsSaid};
 ghost use Rattle.reql_story.specs.Waiting.{StartsToWait, WaitsOn, NothingWasThere};
 
 use crate::planning::Planning;
@@ -115,9 +115,11 @@ pub fn nothing_kept_back<F: Planning>()
 /// on, and then what is still to be said, in the answer that is being told and in the books, is the plan's first items and then
 /// what the answers of its Takes give, in order, the item of a skip ahead of its batch. It is so of each item as it is printed,
 /// with its arm's place among the plan's, whatever its sort; and each batch has the plan's notes. A batch is said only with a token
-/// that has an open feed, and every Take is asked for by one whose feed has that arm.
+/// that has an open feed, and every Take is asked for by one whose feed has that arm. Where a token comes to wait, nothing of its
+/// feed is still to be said.
 pub fn feeds_are_told<F: Planning>()
     ensures told { (f : F) → FeedsAreTold (F.talk f) }
     ensures of_feeds { (f : F) → BatchesAreOfFeeds (F.talk f) }
     ensures takes { (f : F) → TakesAreOfFeeds (F.talk f) }
+    ensures all { (f : F) → AllIsSaid (F.talk f) }
 {}

@@ -9,3 +9,6 @@ returns-clause-of_feeds g c = λ f. told.batches_are_of_feeds (g.F.Planning.talk
 
 pub returns-clause-takes : goal.returns-clause-takes
 returns-clause-takes g c = λ f. told.takes_are_of_feeds (g.F.Planning.talk f) (g.F.Planning.on f) (g.F.Planning.minds f)
+
+pub returns-clause-all : goal.returns-clause-all
+returns-clause-all g c = λ f. told.all_is_said (g.F.Planning.talk f) (g.F.Planning.on f) (g.F.Planning.minds f)
