@@ -56,8 +56,8 @@ IsClosing e = ⊥
 abbrev pub items_after : State → History → Held → ℕ → List (ℕ × Plain)
 items_after start history h stamp = appended (feeding start.most) h (docs_at start history stamp) stamp (drop (stamp - start.table.stamp) (changes start history))
 
--- What a client was sent of a feed, its changes and what tells that some were skipped, is a front of what the answers of its Takes give, in their order;
--- and these tell just what the feed's queue skipped of the items that came to it.
+-- What a client was sent of a feed as changes, and as what tells that some were skipped, is, in order, a beginning of what the answers of its Takes
+-- give; and these tell just what the feed's queue skipped of the items that came to it.
 pub record SendsSkips (most slot feed : ℕ) (h : Held) (items : List (ℕ × Plain)) (after : List Event) : Type 0 where
   pub unsent : List (ℕ × Plain)
   pub sent : all_told slot feed true after ++ unsent ≡ all_taken true (takings feed (map known_act (acts_on slot after)))
@@ -193,8 +193,9 @@ module _ {PL : Type 0} (k : Talk PL) where
       (bare (feeding (share.slots slot).start.most) (upto n (sent_of slot feed after)))
       ≡ (feeding (share.slots slot).start.most).value o.held (docs_at (share.slots slot).start (seen.slots slot) n)
 
-  -- of each feed that a request of an explained session opened: rules out a skip that is sent behind an item which came after it, sent twice, or left out
-  -- where a later item is sent
+  -- Of each feed that a request of an explained session opened, and of the items that are sent as changes and as skips alone: among these it rules out a
+  -- skip behind an item which came after it, one that is there twice, and one that is left out where a later item is sent. Of what is never sent, and of
+  -- what is sent as anything else, it says nothing: `NothingKeptBack` and `FeedsAreTold` do.
   abbrev pub SkipsAreSent : Type 0
   SkipsAreSent = (seen : DeskSeen) (share : DeskShare) (life : Life) → ((slot : ℕ) → (share.slots slot).start.table.feeds ≡ [])
       → (slot feed stamp : ℕ) (after : List Event) (o : Opens seen share life slot feed stamp after)

@@ -99,8 +99,8 @@ pub fn feeds_hold<F: Planning>()
     ensures { (f : F) → FeedsHold (F.talk f) }
 {}
 
-/// Every feed of an explained session: what was sent of it, its changes and what tells that some were skipped, is a front of
-/// what the answers of its Takes give, in their order; and these tell just what its queue skipped.
+/// Every feed of an explained session: what was sent of it as changes, and as what tells that some were skipped, is, in order, a
+/// beginning of what the answers of its Takes give; and these tell just what its queue skipped.
 pub fn skips_are_sent<F: Planning>()
     ensures { (f : F) → SkipsAreSent (F.talk f) }
 {}
