@@ -1,4 +1,4 @@
--- What a CONTINUE on a feed is answered: from where it is taken up, or visited, to its answer.
+-- What a CONTINUE on a feed is answered: from where it is visited to its answer.
 use Rattle.std.proofs.Common.{◌≡◌, ◌≤◌, ◌-◌, inl, inr, ℕ, zero, suc, Bool, true, false, true≢false, cond, List, [], ◌∷◌, ◌++◌, take, drop, length, Option, Some, None, refl, sym, ap, subst, ◌∙◌, arith, append_assoc, append-nil}
 use Rattle.std.specs.List.{AllByRecursion}
 use Rattle.std.proofs.lemmas.Bool.{eqb-true}
@@ -18,7 +18,7 @@ use Rattle.reql_story.specs.Books.{Open, Books, feed_of, closed, with_left, saw_
 use Rattle.reql_story.specs.Bodies.{full, at_wait}
 use Rattle.reql_story.specs.Tasks.{Talk, Firm, Stops, Drops, Settled, Task, Planning, Visiting, Telling, Closing, Next, at, close, wanted, denied, is_long, cut, cut_to, fitted, tell, continue_left, continue_feed, continue_on, visit_feed, begin, takes_up, next_arm, batch_of, gone, took_said, took, ran, Runs, Asks, is_empty, skipped_item, change_items, others, take_order, tell_now}
 use Rattle.reql_story.specs.Session.{Event, Turn, Visit, Greeted, Begin, Heard, Lost, Quiet, Finish, Broken, Long, Wear, Poor, On, OnNames, Dice, Clock, Come, Say, Want, Doing, Rest, Visits, Busy, Leaving, Mach, Step, Run, doing_next, goes_on, Plans, PlanDenied, LeavesArm}
-use Rattle.reql_story.specs.Waiting.{IsTakenUp, IsNothing}
+use Rattle.reql_story.specs.Waiting.{IsVisited, IsNothing}
 use Rattle.reql_story.specs.Opened.{Took}
 use Rattle.reql_story.specs.Continuing.{IsWithin, TookNothing, TookFirst, IsWanting, IsTaken, TellsItems, IsAnswer, IsItsFirst, EachContinues}
 use Rattle.reql_story.proofs.Shelves.{found_token}
@@ -184,7 +184,7 @@ module _ {PL : Type 0} (k : Talk PL) where
           (own, inr (inr (inl (record { count = count; took = record { took = record { prior = prior; arm = arm; rest = arms; all = all; took = t }; firsts = w }; is = refl }))))
       took_good points other t w n = next_good arms points (n tt) refl
 
-    -- ---- where it is taken up, or visited
+    -- ---- where it is visited
     left_tells : (x : Shown) (xs : List Shown) → feed.left ≡ x ∷ xs → (a : Answer) → a ≡ fitted k (Batch feed.notes (take feed.batch (x ∷ xs)) None) → TellsItems k feed a es
     left_tells x xs q a e = record {
       items = take feed.batch (x ∷ xs);
@@ -321,7 +321,7 @@ module _ {PL : Type 0} (k : Talk PL) where
   first_of (Visits (t ∷ left)) = t
   first_of other = 0
 
-  starts : (m n : Mach PL) (token : ℕ) (feed : Open) (e : Event) → IsTakenUp k token m e → IsItsFirst k token m e → feed_of token m.books.feeds ≡ Some feed → Step k m e n → OnDoing token feed [] n.books n.doing
+  starts : (m n : Mach PL) (token : ℕ) (feed : Open) (e : Event) → IsVisited k token m e → IsItsFirst k token m e → feed_of token m.books.feeds ≡ Some feed → Step k m e n → OnDoing token feed [] n.books n.doing
   starts m n token feed Visit t i its s =
       let same : s.0 ≡ token = ap first_of (sym s.2 ∙ t.1) in
       begun m n token feed (Some s.1) m (s.3 ∙ ap (λ z. goes_on m (Some s.1) (visit_feed k m.books s.0 z)) (ap (λ z. feed_of z m.books.feeds) same ∙ its)) its

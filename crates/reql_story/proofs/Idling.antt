@@ -275,18 +275,18 @@ module _ {PL : Type 0} (k : Talk PL) (on : PL → Bool → ℕ → List Found �
       )
 
 module _ {PL : Type 0} (k : Talk PL) (on : PL → Bool → ℕ → List Found → List Arm → Type 0) (well : PlansMind k on) where
-  -- the Takes of an asking, in all events
-  place_of : (all es before asking takes since more between : List Event) (first : Event) → all ≡ es ++ more → es ≡ between ++ since → between ≡ before ++ asking → asking ≡ first ∷ takes → all ≡ (before ++ first ∷ []) ++ (takes ++ (since ++ more))
-  place_of all es before asking takes since more between first a b c d =
+  -- the Takes of a visit, in all events
+  place_of : (all es before visit takes since more between : List Event) (first : Event) → all ≡ es ++ more → es ≡ between ++ since → between ≡ before ++ visit → visit ≡ first ∷ takes → all ≡ (before ++ first ∷ []) ++ (takes ++ (since ++ more))
+  place_of all es before visit takes since more between first a b c d =
       a ∙ (ap (λ z. z ++ more) (b ∙ ap (λ z. z ++ since) (c ∙ ap (λ z. before ++ z) d))
       ∙ (append_assoc (before ++ first ∷ takes) since more ∙ (append_assoc before (first ∷ takes) (since ++ more) ∙ sym (append_assoc before (first ∷ []) (takes ++ (since ++ more))))))
 
   pub nothing_was_there : NothingWasThere k
   nothing_was_there seen share life x es more m h r t w =
       let v = waits_on k es m r t w in
-      let a = v.asked.asks in
+      let a = v.visited.vain in
       record {
         waits = v;
-        idle = idle_all k on well seen share life x a.feed.batch a.feed.arms a.takes (v.asked.before ++ a.first ∷ []) (v.since ++ more)
-            (place_of x.explained.events es v.asked.before v.asked.asking a.takes v.since more v.before a.first h v.events v.asked.events a.events) a.found;
+        idle = idle_all k on well seen share life x a.feed.batch a.feed.arms a.takes (v.visited.before ++ a.first ∷ []) (v.since ++ more)
+            (place_of x.explained.events es v.visited.before v.visited.visit a.takes v.since more v.before a.first h v.events v.visited.events a.events) a.found;
       }

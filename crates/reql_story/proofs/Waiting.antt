@@ -1,4 +1,4 @@
--- Why a CONTINUE waits: what it has asked, kept along a run.
+-- Why a CONTINUE waits: the Takes of its last visit, kept along a run.
 use Rattle.std.proofs.Common.{◌≡◌, ◌⊎◌, ◌+◌, inl, inr, ℕ, Bool, true, false, true≢false, cond, not, ◌||◌, List, [], ◌∷◌, ◌++◌, drop, length, Option, Some, None, refl, sym, ap, subst, ◌∙◌, arith, append_assoc, append-nil}
 use Rattle.std.specs.Prelude.{nat_eq, nat_le}
 use Rattle.std.proofs.lemmas.Bool.{eqb-true}
@@ -18,7 +18,7 @@ use Rattle.reql_story.specs.Requests.{Asked, Unreadable, Unplanned, Start, Conti
 use Rattle.reql_story.specs.Books.{Cursor, Open, Books, has_token, without, cursor_of, feed_of, is_open, closed, with_rest, with_left, with_cursor, with_feed, waits, saw_names}
 use Rattle.reql_story.specs.Tasks.{Talk, Firm, Stops, Drops, Settled, Task, Planning, Visiting, Telling, Closing, Next, done, at, only_tell, close, wanted, denied, told, stop_feed, stop, is_long, cut, tell, comes_to, continue_cursor, continue_left, continue_feed, continue_on, visit_feed, visit, refuse, begin, takes_up, next_arm, batch_of, gone, took_said, took, ran, found_more, Runs, Asks, batch_size, is_empty, skipped_item, change_items, cut_to, fitted, others, arms_denied, take_order}
 use Rattle.reql_story.specs.Session.{Event, Turn, Visit, Greeted, Begin, Heard, Lost, Quiet, Finish, Broken, Long, Wear, Poor, On, OnNames, Dice, Clock, Come, Say, Want, Doing, Rest, Visits, Busy, Leaving, Mach, fresh, Step, Run, doing_next, goes_on, Plans, PlanDenied, LeavesArm, turns, turns_of}
-use Rattle.reql_story.specs.Waiting.{IsNothing, IsBare, FoundNothing, IsTakenUp, EndsInVain, StartsToWait, StaysWaiting, WaitsInVain, WaitsOn}
+use Rattle.reql_story.specs.Waiting.{IsNothing, IsBare, FoundNothing, IsVisited, EndsInVain, StartsToWait, StaysWaiting, WaitsInVain, WaitsOn}
 use Rattle.reql_story.proofs.Opened.{its_plan}
 use Rattle.reql_story.proofs.Shelves.{or_true, found_token}
 
@@ -72,13 +72,13 @@ Within x b = (t : ℕ) → has_token t x.waiting ≡ true → has_token t b.wait
 in_closed : (u : ℕ) (b : Books) → Within (closed u b) b
 in_closed u b t h = has_without t u b.waiting h
 
--- what is left to be asked, or that the token waits
+-- what is left to be taken from, or that the token waits
 module _ (P : ℕ → List Arm → Type 0) (W : ℕ → Type 0) where
   abbrev Comes : ℕ → List Arm → Type 0
   Comes u [] = W u
   Comes u (arm ∷ arms) = P u (arm ∷ arms)
 
--- ---- what is next, where P is so of a token and the arms that are still to be asked for it, and W of a token that comes to wait
+-- ---- what is next, where P is so of a token and the arms that are still to be taken from for it, and W of a token that comes to wait
 module _ {PL : Type 0} (P : ℕ → List Arm → Type 0) (W : ℕ → Type 0) where
   abbrev IsFit : Books → Books → Task PL → Type 0
   IsFit b c (Planning u plan noreply count found arms) = Unit {0}
@@ -237,7 +237,7 @@ module _ {PL : Type 0} (k : Talk PL) where
   run_more a m n [] e r s = (n, subst (λ z. Step k z e n) r s, refl)
   run_more a m n (x ∷ es) e r s = (r.0, r.1, run_more r.0 m n es e r.2 s)
 
-  -- A CONTINUE is asking: it was taken up, or visited, with nothing of its feed left, and the Takes of its arms found nothing up to
+  -- A CONTINUE's visit is under way: it began with nothing of its feed left, and the Takes of its arms found nothing up to
   -- these arms.
   record Midst (es : List Event) (m : Mach PL) (b : Books) (token : ℕ) (arms : List Arm) : Type 0 where
     before : List Event
@@ -247,7 +247,7 @@ module _ {PL : Type 0} (k : Talk PL) where
     feed : Open
     events : es ≡ before ++ first ∷ takes
     led : Run k fresh before start
-    begins : IsTakenUp k token start first
+    begins : IsVisited k token start first
     run : Run k start (first ∷ takes) m
     its : feed_of token start.books.feeds ≡ Some feed
     here : feed_of token b.feeds ≡ Some feed
@@ -267,7 +267,7 @@ module _ {PL : Type 0} (k : Talk PL) where
   At es m b (Leaving arms end) = Unit {0}
 
   -- it has just been taken up
-  first_midst : (es : List Event) (m n : Mach PL) (e : Event) (u : ℕ) (f : Open) → Run k fresh es m → Step k m e n → IsTakenUp k u m e → feed_of u m.books.feeds ≡ Some f → f.left ≡ [] → Midst (es ++ e ∷ []) n m.books f.token f.arms
+  first_midst : (es : List Event) (m n : Mach PL) (e : Event) (u : ℕ) (f : Open) → Run k fresh es m → Step k m e n → IsVisited k u m e → feed_of u m.books.feeds ≡ Some f → f.left ≡ [] → Midst (es ++ e ∷ []) n m.books f.token f.arms
   first_midst es m n e u f r s t o l =
       let same : f.token ≡ u = eqb-true f.token u (found_token 0 0 false u m.books.feeds f o) in
       subst (λ z. Midst (es ++ e ∷ []) n m.books z f.arms) (sym same)
@@ -280,7 +280,7 @@ module _ {PL : Type 0} (k : Talk PL) where
     abbrev W : ℕ → Type 0
     W u = has_token u n.books.waiting ≡ true → EndsInVain k u (es ++ e ∷ []) n
 
-  -- one more Take found nothing: further arms are asked, or the token waits
+  -- one more Take found nothing: further arms are taken from, or the token waits
   module _ (es : List Event) (m n : Mach PL) (slot place : ℕ) (order : Order) (reply : Told) (saved : Saved) (u : ℕ) (arm : Arm) (s : Step k m (On slot (Ran place order reply) saved) n) where
     abbrev taken : Event
     taken = On slot (Ran place order reply) saved
@@ -311,11 +311,11 @@ module _ {PL : Type 0} (k : Talk PL) where
     ends : (arms : List Arm) (x : Midst es m m.books u (arm ∷ arms)) → FoundNothing x.feed.batch (arm ∷ arms) (taken ∷ []) → has_token u n.books.waiting ≡ true → EndsInVain k u (es ++ taken ∷ []) n
     ends arms x h w = record {
       before = x.before;
-      asking = x.first ∷ (x.takes ++ taken ∷ []);
+      visit = x.first ∷ (x.takes ++ taken ∷ []);
       start = x.start;
       events = more_events x.before x.takes x.first x.events;
       led = x.led;
-      asks = record {
+      vain = record {
         first = x.first;
         takes = x.takes ++ taken ∷ [];
         events = refl;
@@ -369,7 +369,7 @@ module _ {PL : Type 0} (k : Talk PL) where
       waits = λ t h. elim (d.waits t (subst (λ (z : Mach PL). has_token t z.books.waiting ≡ true) g h)) [ inl a ↦ inl a | inr w ↦ inr (w h) ];
     }
 
-    -- to a place where nothing is asked, with who waited before
+    -- to a place where no visit is under way, with who waited before
     moves : (x : Mach PL) → n ≡ x → ((b : Books) → At (es ++ e ∷ []) n b x.doing) → Within x.books m.books → Goes
     moves x g a s = record {
       at = subst (λ (z : Mach PL). At (es ++ e ∷ []) n z.books z.doing) (sym g) (a x.books);
@@ -451,7 +451,7 @@ module _ {PL : Type 0} (k : Talk PL) where
     since = x.since ++ e ∷ [];
     there = x.there;
     events = ap (λ z. z ++ e ∷ []) x.events ∙ append_assoc x.before x.since (e ∷ []);
-    asked = x.asked;
+    visited = x.visited;
     stays = stays_more t x.there m n x.since e x.stays s w;
     turn = omega (arith, turns_more x.since e, x.turn, no_turn t m n e s w);
   }
@@ -469,7 +469,7 @@ module _ {PL : Type 0} (k : Talk PL) where
         at = g.at;
         waits = λ t w. elim (g.waits t w) [
           | inl a ↦ waits_more t es m n e s w (x.waits t a)
-          | inr b ↦ record { before = es ++ e ∷ []; since = []; there = n; events = sym (append-nil (es ++ e ∷ [])); asked = b; stays = (refl, w); turn = refl }
+          | inr b ↦ record { before = es ++ e ∷ []; since = []; there = n; events = sym (append-nil (es ++ e ∷ [])); visited = b; stays = (refl, w); turn = refl }
         ];
       }
 

@@ -16,7 +16,7 @@ use Rattle.reql_story.specs.Bodies.{full}
 use Rattle.reql_story.specs.Tasks.{Talk, skipped_item, change_items, fitted, take_order}
 use Rattle.reql_story.specs.Session.{Event, Turn, Visit, Begin, On, Say, Want, Mach, Step, Run}
 use Rattle.reql_story.specs.Opened.{TookArm}
-use Rattle.reql_story.specs.Waiting.{IsTakenUp, IsNothing}
+use Rattle.reql_story.specs.Waiting.{IsVisited, IsNothing}
 
 -- no turn and no visit begins, no frame is taken, and no answer is sent
 abbrev pub IsWithin : Event → Type 0
@@ -89,11 +89,11 @@ module _ {PL : Type 0} (k : Talk PL) where
   IsItsFirst token m (Begin frame is_read) = (cursor_of token m.books.cursors ≡ None) × (has_token token m.books.waiting ≡ false)
   IsItsFirst token m e = Unit {0}
 
-  -- Where a CONTINUE on an open feed is taken up, or visited, the next answer, with no turn, visit or frame before it, has its token
-  -- and is such a one: none is a batch of nothing, none tells of items that were neither left nor taken, and none is a fault for
-  -- which there was no cause. (A STOP answers one that waits by `Last`.)
+  -- Where a CONTINUE on an open feed is visited, the next answer, with no turn, further visit or frame before it, has its token and
+  -- is such a one: none tells of nothing where batches of the feed have an item, none tells of items that were neither left nor
+  -- taken, and none is a fault for which there was no cause. (A STOP answers one that waits by `Last`.)
   abbrev pub EachContinues : Type 0
   EachContinues = (m x y z : Mach PL) (token : ℕ) (feed : Open) (first : Event) (es : List Event) (t : ℕ) (a : Answer) (whole : Bool)
-      → IsTakenUp k token m first → IsItsFirst token m first → feed_of token m.books.feeds ≡ Some feed
+      → IsVisited k token m first → IsItsFirst token m first → feed_of token m.books.feeds ≡ Some feed
       → Step k m first x → Run k x es y → AllByRecursion IsWithin es → Step k y (Say t a whole) z
       → (t ≡ token) × IsAnswer feed a es

@@ -1,4 +1,4 @@
--- Why a CONTINUE waits: it asked its feed for all that there may be for it, and was told of nothing.
+-- Why a CONTINUE waits: where it was visited last, nothing of its feed was left, and its feed's arms were taken from in vain.
 use Rattle.std.specs.Prelude.{◌≡◌, ◌⊎◌, ◌≤◌, ℕ, true, false, List, [], ◌∷◌, ◌++◌, take, Some}
 use Rattle.std.specs.List.{AllByRecursion}
 use Rattle.reql_datum.specs.Plain.{Plain}
@@ -32,7 +32,7 @@ IsBare (said.Batch skipped last items) = (skipped ≡ 0) × (items ≡ [])
 IsBare other = ⊥
 
 -- These events are one Take of each of these arms, in their order, of so many items at most, and each found nothing; or up to one
--- that was answered by a bare batch, behind which no arm is asked.
+-- that was answered by a bare batch, behind which no arm is taken from.
 abbrev pub FoundNothing : ℕ → List Arm → List Event → Type 0
 FoundNothing max [] es = es ≡ []
 FoundNothing max (arm ∷ arms) es = (place : ℕ) × (reply : Told) × (kept : Saved) × (more : List Event) × (es ≡ On arm.slot (Ran place (take_order arm.feed max) reply) kept ∷ more)
@@ -57,19 +57,19 @@ IsIdle seen share (On slot (Ran place order reply) kept) = (number : ℕ) × (ma
 IsIdle seen share e = ⊥
 
 module _ {PL : Type 0} (k : Talk PL) where
-  -- a CONTINUE of a token is taken up, or one that waits is visited
-  abbrev pub IsTakenUp : ℕ → Mach PL → Event → Type 0
-  IsTakenUp token m Visit = (left : List ℕ) × (m.doing ≡ Visits (token ∷ left))
-  IsTakenUp token m (Begin frame true) = (frame.token ≡ token) × (k.asked frame.body ≡ Continue)
-  IsTakenUp token m e = ⊥
+  -- A CONTINUE of a token is visited: it is taken up, or it waits and a visit to it begins.
+  abbrev pub IsVisited : ℕ → Mach PL → Event → Type 0
+  IsVisited token m Visit = (left : List ℕ) × (m.doing ≡ Visits (token ∷ left))
+  IsVisited token m (Begin frame true) = (frame.token ≡ token) × (k.asked frame.body ≡ Continue)
+  IsVisited token m e = ⊥
 
-  -- A CONTINUE asked in vain: from where it is taken up, or visited, to where it waits. Its feed is open, no item of its opening, no
-  -- state, skip or change is left of what was taken before, and the Takes of its arms, each of a batch at most, found nothing.
-  pub record AsksInVain (token : ℕ) (m : Mach PL) (es : List Event) (n : Mach PL) : Type 0 where
+  -- A CONTINUE is visited in vain: from where its visit begins to where it waits. Its feed is open, no item of its opening, no state,
+  -- skip or change is left of what was taken before, and the Takes of its arms, each of a batch at most, found nothing.
+  pub record VisitInVain (token : ℕ) (m : Mach PL) (es : List Event) (n : Mach PL) : Type 0 where
     pub first : Event
     pub takes : List Event
     pub events : es ≡ first ∷ takes
-    pub begins : IsTakenUp token m first
+    pub begins : IsVisited token m first
     pub feed : Open
     pub its : feed_of token m.books.feeds ≡ Some feed
     pub left : feed.left ≡ []
@@ -77,19 +77,19 @@ module _ {PL : Type 0} (k : Talk PL) where
     pub run : Run k m es n
     pub waits : has_token token n.books.waiting ≡ true
 
-  -- these events, which led here, end with a CONTINUE's asking in vain
+  -- These events, which led here, end with a CONTINUE's visit in vain; its feed is that of a START of its token.
   pub record EndsInVain (token : ℕ) (es : List Event) (m : Mach PL) : Type 0 where
     pub before : List Event
-    pub asking : List Event
+    pub visit : List Event
     pub start : Mach PL
-    pub events : es ≡ before ++ asking
+    pub events : es ≡ before ++ visit
     pub led : Run k fresh before start
-    pub asks : AsksInVain token start asking m
-    pub opened : IsOpened k asks.feed before
+    pub vain : VisitInVain token start visit m
+    pub opened : IsOpened k vain.feed before
 
-  -- A token comes to wait only by a step that is the last one of its CONTINUE's asking in vain. So no CONTINUE waits that wasn't
-  -- asked for, nor one for which something is left, nor one for which a Take found items, a skip, a dropped table or a full
-  -- history, nor one of which an arm was passed over, but behind a bare batch.
+  -- A token comes to wait only by the last step of its CONTINUE's visit in vain. So no CONTINUE waits that wasn't visited, nor one of
+  -- whose feed something is left, nor one for which a Take found items, a skip, a dropped table or a full history, nor one of whose
+  -- feed's arms one wasn't taken from, but behind a bare batch.
   abbrev pub StartsToWait : Type 0
   StartsToWait = (es : List Event) (m n : Mach PL) (e : Event) → Run k fresh es m → Step k m e n
       → (token : ℕ) → has_token token m.books.waiting ≡ false → has_token token n.books.waiting ≡ true → EndsInVain token (es ++ e ∷ []) n
@@ -99,28 +99,30 @@ module _ {PL : Type 0} (k : Talk PL) where
   StaysWaiting token m [] n = (n ≡ m) × (has_token token m.books.waiting ≡ true)
   StaysWaiting token m (e ∷ es) n = (has_token token m.books.waiting ≡ true) × (x : Mach PL) × Step k m e x × StaysWaiting token x es n
 
-  -- these events, which led here, have a CONTINUE's asking in vain, since which its token has waited and no turn has begun
+  -- these events, which led here, have a CONTINUE's visit in vain, since which its token has waited and no turn has begun
   pub record WaitsInVain (token : ℕ) (es : List Event) (m : Mach PL) : Type 0 where
     pub before : List Event
     pub since : List Event
     pub there : Mach PL
     pub events : es ≡ before ++ since
-    pub asked : EndsInVain token before there
+    pub visited : EndsInVain token before there
     pub stays : StaysWaiting token there since m
     pub turn : turns since ≡ 0
 
-  -- Whoever waits asked in vain in this very turn: a turn begins with nobody waiting and visits all who did, and only a visit that is
-  -- in vain lets one wait on.
+  -- Whoever waits was visited in vain in this very turn, and has waited at every point since: so none waits on from one turn to the
+  -- next without a further visit in vain.
   abbrev pub WaitsOn : Type 0
   WaitsOn = (es : List Event) (m : Mach PL) → Run k fresh es m → (token : ℕ) → has_token token m.books.waiting ≡ true → WaitsInVain token es m
 
-  -- and each of the Takes of that asking found a feed that has nothing, in the table at its place of the hall's history
+  -- and each of the Takes of that visit found a feed that has nothing, in the table at its place of the hall's history
   pub record WaitsForNothing (seen : DeskSeen) (share : DeskShare) (token : ℕ) (es : List Event) (m : Mach PL) : Type 0 where
     pub waits : WaitsInVain token es m
-    pub idle : AllByRecursion (IsIdle seen share) waits.asked.asks.takes
+    pub idle : AllByRecursion (IsIdle seen share) waits.visited.vain.takes
 
-  -- Wherever a token waits in an explained session, nothing was there for it when it was asked for in this turn: each arm of its feed
-  -- that was asked was open in its table, which wasn't dropped, with nothing skipped and nothing queued that comes to an item.
+  -- Wherever a token waits in an explained session, nothing was there for it where it was visited in this turn: each arm of its feed
+  -- that was taken from was open in its table, with nothing skipped. Where the feed's batches have an item at least, nothing was
+  -- queued there, and the table wasn't dropped; or the feed squashes, and something was queued of which the net is nothing, also in
+  -- a table that was dropped. Of batches that have no item it says nothing of what was queued.
   abbrev pub NothingWasThere : Type 0
   NothingWasThere = (seen : DeskSeen) (share : DeskShare) (life : Life) (x : ExplainedBy k seen share life) (es more : List Event) (m : Mach PL) → x.explained.events ≡ es ++ more
       → Run k fresh es m → (token : ℕ) → has_token token m.books.waiting ≡ true → WaitsForNothing seen share token es m

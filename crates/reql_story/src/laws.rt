@@ -52,19 +52,20 @@ pub fn each_is_opened<F: Planning>()
     ensures { (f : F) → EachIsOpened (F.talk f) }
 {}
 
-/// A CONTINUE comes to wait only where nothing was there for it: it was taken up, or visited, with nothing of its feed left to
-/// be sent, and a Take of each arm of the feed, in order, of a batch of the plan's at most, found neither items nor a skip, a
-/// dropped table or a full history; behind an arm whose changes came to no item no other is asked. Whoever waits asked so in
-/// vain in this very turn, and has waited since. In a hall that explains the session each of those Takes found its feed open
-/// in its table, with nothing skipped and nothing queued, or with changes of which the net is nothing.
+/// A CONTINUE comes to wait only where nothing was there for it. It was visited, which it is where it is taken up and where it
+/// waits and a visit to it begins, with nothing of its feed left to be sent; and a Take of each arm of the feed, in order, of a
+/// batch of the plan's at most, found neither items nor a skip, a dropped table or a full history. No arm is taken from behind
+/// one whose changes came to no item. Whoever waits was visited so in vain in this very turn, and has waited since. In a hall
+/// that explains the session each of those Takes found its feed open in its table, with nothing skipped; and, where its batches
+/// have an item at least, with nothing queued in a table that wasn't dropped, or with changes queued of which the net is
+/// nothing. Of batches that have no item nothing is said of what was queued.
 pub fn starts_to_wait<F: Planning>()
     ensures starts { (f : F) → StartsToWait (F.talk f) }
     ensures goes_on { (f : F) → WaitsOn (F.talk f) }
     ensures for_nothing { (f : F) → NothingWasThere (F.talk f) }
 {}
 
-/// Where a CONTINUE on an open feed is taken up, or visited, the next answer, with no turn, visit or frame before it, has its
-/// token. It tells of what was left of the feed; or, where nothing was left, of what the first Take gave that found something,
+/// Where a CONTINUE on an open feed is visited, the next answer, with no turn, further visit or frame before it, has its token. It tells of what was left of the feed; or, where nothing was left, of what the first Take gave that found something,
 /// of the feed's arms in their order; and of an item at least where batches have one. Or it is the fault of such an answer that
 /// is too long, of a table of which the first such Take was told that it was dropped, or of a history of which it was told that
 /// it is full; or INTERNAL, where memory was wanted.
