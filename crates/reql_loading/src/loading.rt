@@ -3,7 +3,7 @@ ghost use Rattle.std.specs.Prelude.{◌<◌, length, map, string_bytes, IfOk, If
 ghost use Rattle.reql_words.specs.Words.{asks};
 ghost use Rattle.reql_core.specs.Core.{state_of};
 ghost use Rattle.reql_open_feed.specs.Open.{held_in};
-ghost use Rattle.reql_told.specs.Laws.{AllInOrder, AllFramesHandled, AllWornLate, AllFirstFailed, AllAreAnswered, AllWaitForNothing, AllValidClose, AllFeedsHold, AllSkipsAreSent, AllFeedsAreRead, AllFeedsAreTheirs};
+ghost use Rattle.reql_told.specs.Laws.{AllInOrder, AllFramesHandled, AllWornLate, AllFirstFailed, AllAreAnswered, AllWaitForNothing, AllValidClose, AllFeedsHold, AllSkipsAreSent, AllFeedsAreRead, AllFeedsAreTheirs, AllFeedsAreOpened, AllContinuesAreAnswered, AllNothingKeptBack, AllFeedsAreTold, AllBatchesAreOfFeeds, AllTakesAreOfFeeds, AllIsSaid};
 ghost use Rattle.reql_serve.specs.Many.{at_end};
 ghost use Rattle.reql_loading.specs.Loading.{IsServed, Loads, Prints, Reports, Unloaded};
 
@@ -17,7 +17,7 @@ use reql_outside::{Put, Sink};
 use reql_run::{Core, serve_posts};
 use reql_serve::Many;
 use reql_tally::tally_history;
-use reql_told::{feeds_are_read, sessions_hold};
+use reql_told::{feeds_are_read, feeds_are_told, sessions_hold};
 use reql_words::{Command, command_of};
 use std::alloc::Global;
 use std::sync::Wait;
@@ -119,11 +119,19 @@ where
     ensures valid_close { AllValidClose }
     ensures feeds_hold { AllFeedsHold }
     ensures skips_are_sent { AllSkipsAreSent }
+    ensures feeds_are_opened { AllFeedsAreOpened }
+    ensures continues_are_answered { AllContinuesAreAnswered }
+    ensures nothing_kept_back { AllNothingKeptBack }
+    ensures feeds_are_told { AllFeedsAreTold }
+    ensures batches_are_of_feeds { AllBatchesAreOfFeeds }
+    ensures takes_are_of_feeds { AllTakesAreOfFeeds }
+    ensures all_is_said { AllIsSaid }
     ensures feeds_are_read { AllFeedsAreRead }
     ensures feeds_are_theirs { AllFeedsAreTheirs }
 {
     sessions_hold();
     feeds_are_read();
+    feeds_are_told();
     let Command::Load { seed, size } = command_of(words) else {
         return Loaded {
             status: 2,

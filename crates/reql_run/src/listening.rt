@@ -6,7 +6,7 @@ ghost use Rattle.reql_core.specs.Core.{state_of};
 ghost use Rattle.reql_open_feed.specs.Open.{held_in};
 ghost use Rattle.reql_law.specs.Laws.{DocsAtStamp, StampCounts};
 ghost use Rattle.reql_law.specs.Terms.{PointsShowTheirTerms, RangesShowTheirTerms, LimitsShowTheirTerms};
-ghost use Rattle.reql_told.specs.Laws.{AllInOrder, AllFramesHandled, AllWornLate, AllFirstFailed, AllAreAnswered, AllWaitForNothing, AllValidClose, AllFeedsHold, AllSkipsAreSent, AllFeedsAreRead, AllFeedsAreTheirs, BatchesAgree, InfoIsServers, PlansAreTold};
+ghost use Rattle.reql_told.specs.Laws.{AllInOrder, AllFramesHandled, AllWornLate, AllFirstFailed, AllAreAnswered, AllWaitForNothing, AllValidClose, AllFeedsHold, AllSkipsAreSent, AllFeedsAreRead, AllFeedsAreTheirs, AllFeedsAreOpened, AllContinuesAreAnswered, AllNothingKeptBack, AllFeedsAreTold, AllBatchesAreOfFeeds, AllTakesAreOfFeeds, AllIsSaid, AllFeedsAreAskedInTurn, AllRunNoOtherFeeds, AllFeedsEndWithTheirOwn, AllFaultyFeedsAreRefused, AllCrowdedFeedsAreRefused, AllNextFeedsAreRun, AllOpenFeedsAreTold, AllDeniedFeedsAreClosed, BatchesAgree, InfoIsServers, PlansAreTold};
 ghost use Rattle.reql_told.specs.Refusing.{FirstRefusal, ShapeRefusal};
 ghost use Rattle.reql_net.specs.Nets.{IsUntouched};
 ghost use Rattle.reql_serve.specs.Working.{outside};
@@ -21,7 +21,10 @@ use reql_net::{Door, Net, NetFault, Post};
 use reql_outside::{Clock, Dice, Link};
 use reql_planner::QueryPlanner;
 use reql_serve::{Left, Many, WorkState, serve_many};
-use reql_told::{feeds_are_read, first_refusal, plans_are_told, server_is_told, sessions_hold};
+use reql_told::{
+    changes_are_answered, feeds_are_read, feeds_are_told, first_refusal, plans_are_told,
+    server_is_told, sessions_hold,
+};
 use reql_words::{Command, command_of};
 use std::alloc::Global;
 use std::sync::Wait;
@@ -205,8 +208,23 @@ where
     ensures server { InfoIsServers }
     ensures feeds_hold { AllFeedsHold }
     ensures skips_are_sent { AllSkipsAreSent }
+    ensures feeds_are_opened { AllFeedsAreOpened }
+    ensures continues_are_answered { AllContinuesAreAnswered }
+    ensures nothing_kept_back { AllNothingKeptBack }
+    ensures feeds_are_told { AllFeedsAreTold }
+    ensures batches_are_of_feeds { AllBatchesAreOfFeeds }
+    ensures takes_are_of_feeds { AllTakesAreOfFeeds }
+    ensures all_is_said { AllIsSaid }
     ensures feeds_are_read { AllFeedsAreRead }
     ensures feeds_are_theirs { AllFeedsAreTheirs }
+    ensures feeds_in_turn { AllFeedsAreAskedInTurn }
+    ensures no_other_feeds { AllRunNoOtherFeeds }
+    ensures feeds_end { AllFeedsEndWithTheirOwn }
+    ensures faulty_feeds { AllFaultyFeedsAreRefused }
+    ensures crowded_feeds { AllCrowdedFeedsAreRefused }
+    ensures next_feeds { AllNextFeedsAreRun }
+    ensures open_feeds { AllOpenFeedsAreTold }
+    ensures denied_feeds { AllDeniedFeedsAreClosed }
     ensures documents { DocsAtStamp }
     ensures stamps { StampCounts }
     ensures points { PointsShowTheirTerms }
@@ -218,6 +236,8 @@ where
     server_is_told();
     sessions_hold();
     feeds_are_read();
+    feeds_are_told();
+    changes_are_answered();
     table_laws();
     feeds_show_their_terms();
     let Command::Listen {

@@ -18,6 +18,10 @@ use Rattle.reql_plan_law.specs.Follows.{IsRead}
 use Rattle.reql_plan_law.specs.Texts.{too_many_cursors}
 use Rattle.reql_story.specs.Answering.{EachIsAnswered}
 use Rattle.reql_story.specs.Waiting.{NothingWasThere}
+use Rattle.reql_story.specs.Opened.{EachIsOpened}
+use Rattle.reql_story.specs.Continuing.{EachContinues}
+use Rattle.reql_story.specs.Owed.{NothingKeptBack}
+use Rattle.reql_story.specs.Printed as printed
 use Rattle.reql_story.specs.Bodies.{server_info}
 use Rattle.reql_story.specs.Explained.{ExplainedBy}
 use Rattle.reql_story.specs.Laws as story
@@ -142,3 +146,25 @@ AllFeedsHold = (key : List ℕ) (limits : Limits) → story.FeedsHold (talk key 
 
 abbrev pub AllSkipsAreSent : Type 0
 AllSkipsAreSent = (key : List ℕ) (limits : Limits) → story.SkipsAreSent (talk key limits)
+
+-- and of the feeds that a session has open: whose they are, and what is said of them
+abbrev pub AllFeedsAreOpened : Type 0
+AllFeedsAreOpened = (key : List ℕ) (limits : Limits) → EachIsOpened (talk key limits)
+
+abbrev pub AllContinuesAreAnswered : Type 0
+AllContinuesAreAnswered = (key : List ℕ) (limits : Limits) → EachContinues (talk key limits)
+
+abbrev pub AllNothingKeptBack : Type 0
+AllNothingKeptBack = (key : List ℕ) (limits : Limits) → NothingKeptBack (talk key limits)
+
+abbrev pub AllFeedsAreTold : Type 0
+AllFeedsAreTold = (key : List ℕ) (limits : Limits) → printed.FeedsAreTold (talk key limits)
+
+abbrev pub AllBatchesAreOfFeeds : Type 0
+AllBatchesAreOfFeeds = (key : List ℕ) (limits : Limits) → printed.BatchesAreOfFeeds (talk key limits)
+
+abbrev pub AllTakesAreOfFeeds : Type 0
+AllTakesAreOfFeeds = (key : List ℕ) (limits : Limits) → printed.TakesAreOfFeeds (talk key limits)
+
+abbrev pub AllIsSaid : Type 0
+AllIsSaid = (key : List ℕ) (limits : Limits) → printed.AllIsSaid (talk key limits)
