@@ -26,7 +26,7 @@ use Rattle.reql_story.specs.Tasks.{Talk, Firm, Stops, Drops, Settled, Task, Plan
 use Rattle.reql_story.specs.Bodies.{full}
 use Rattle.reql_story.specs.Minding.{has_arm, are_apart, Minds, IsOther, PlansMind}
 use Rattle.reql_story.specs.Session.{Event, Turn, Visit, Greeted, Begin, Heard, Lost, Quiet, Finish, Broken, Long, Wear, Poor, On, OnNames, Dice, Clock, Come, Say, Want, Doing, Rest, Visits, Busy, Leaving, Mach, fresh, Step, Run, doing_next, goes_on, PlanEnds}
-use Rattle.reql_story.specs.Waiting.{IsNothing, IsBare, FoundNothing, IsTakenUp}
+use Rattle.reql_story.specs.Waiting.{IsNothing, IsBare, FoundNothing, IsVisited}
 use Rattle.reql_story.specs.Owed.{keeps, IsHere}
 use Rattle.reql_story.specs.Printed.{items_in, said_by, all_said, AreNotes, HasNotes, printed, printed_from, given_by, left_of, task_asks, is_asking, taken_at, saying, due, IsOpenAt, StaysOpen, all_given, IsTold, FeedsAreTold, BatchesAreOfFeeds, TakesAreOfFeeds, AllIsSaid}
 use Rattle.reql_story.proofs.Shelves.{which, or_false, found_token}
@@ -1062,13 +1062,13 @@ module _ {PL : Type 0} (k : Talk PL) (on : PL → Bool → ℕ → List Found �
   all_done m n (e ∷ es) q r d = all_done r.0 n es q.1 r.2 (one_more m r.0 e q.0 r.1 d)
 
   -- where a CONTINUE is taken up, its feed is found in the books
-  taken_up : (m n : Mach PL) (e : Event) → IsTakenUp k τ m e → Step k m e n → (left : List ℕ) × (m.doing ≡ Visits left) × Quiets e
+  taken_up : (m n : Mach PL) (e : Event) → IsVisited k τ m e → Step k m e n → (left : List ℕ) × (m.doing ≡ Visits left) × Quiets e
   taken_up m n Visit t s = (τ ∷ t.0, t.1, record { says = refl; gives = λ d. refl; other = refl })
   taken_up m n (Begin frame true) t s = ([], s.1, record { says = refl; gives = λ d. refl; other = refl })
   taken_up m n (Begin frame false) t s = absurd t
   taken_up m n other t s = absurd t
 
-  nothing_due : (m start : Mach PL) (first : Event) (takes : List Event) (f : Open) (v : Option (List Shown)) → FitM k on τ A N well apart start v → IsTakenUp k τ start first → Run k start (first ∷ takes) m
+  nothing_due : (m start : Mach PL) (first : Event) (takes : List Event) (f : Open) (v : Option (List Shown)) → FitM k on τ A N well apart start v → IsVisited k τ start first → Run k start (first ∷ takes) m
       → feed_of τ start.books.feeds ≡ Some f → f.left ≡ [] → FoundNothing f.batch f.arms takes → IsOpenAt τ m → due τ m ≡ []
   nothing_due m start first takes f v fits t r its left found here =
       let up = taken_up start r.0 first t r.1 in
@@ -1082,7 +1082,7 @@ module _ {PL : Type 0} (k : Talk PL) (on : PL → Bool → ℕ → List Found �
 module _ {PL : Type 0} (k : Talk PL) (on : PL → Bool → ℕ → List Found → List Arm → Type 0) (well : PlansMind k on) where
   pub all_is_said : AllIsSaid k
   all_is_said es m token e o =
-      let a = e.asks in
+      let a = e.vain in
       let run : Run k e.start (a.first ∷ a.takes) m = subst (λ z. Run k e.start z m) a.events a.run in
       elim (kept k on well token e.before e.start e.led).state [
         | inl d ↦ nothing_due k on well token d.arms d.notes d.apart m e.start a.first a.takes a.feed None d.fits a.begins run a.its a.left a.found o
