@@ -98,10 +98,11 @@ fn print<K: Sink>(
 /// opened with to what their query gives.
 ///
 /// With other words the status is 2, and nothing is served or printed. What is proved of every session of these plans stands
-/// beside what these did: its input is handled in order, every whole frame of it, each that wants an answer is given just one,
-/// but for a CONTINUE that waits, since its feed had nothing for it, and after a failed send, it ends with its first failed
-/// send, and every feed that it opened follows something, folds to the value of its query and tells just what its queue
-/// skipped. What else is, of planning and refusals, stands beside `run` of `reql_run`.
+/// beside what these did: its input is handled in order, every whole frame of it; each frame that wants an answer is given
+/// just one, but for a CONTINUE that waits and after a failed send, and one waits only where its feed gave nothing in that very
+/// turn; a session ends with its first failed send; and every feed that it opened is its own term's, follows something, is told
+/// all that its Takes give, and folds to the value of its query. The clauses on refusals and on what a CHANGES comes to stand
+/// beside `run` of `reql_run`.
 pub fn load<R, K: Sink>(rt: &R, alloc: Global, words: &[String], out: &mut K) -> Loaded
 where
     R: Threads + Wait + Sync,

@@ -53,11 +53,12 @@ pub fn server_is_told()
 /// The laws of explained sessions, whatever their key and their limits: what came in was handled in order; every whole
 /// frame was handled, but for a failed send, a worn session or want of memory; a session is worn only where more came than
 /// its turns may take; its first failed send ends it; each frame that wants an answer is given one before the next is taken,
-/// but for a CONTINUE that waits, and one waits only where its feed had nothing for it when it was asked in that turn; one
-/// that is given a valid input handles every frame of it and closes, but for a failed receive, a failed send, too few turns
-/// or want of memory; a hall whose histories go on explains a session still; the sessions of a desk divide what it did;
-/// every feed that a session opened folds to its query's value at every change up to which its answers are whole; and what
-/// is sent of it tells just what its queue skipped, each time ahead of what came behind it.
+/// but for a CONTINUE that waits, and that one waits only where, visited in that very turn, it had nothing left of its feed and
+/// was given nothing by the arms that were taken from; a session that is given a valid input handles every frame of it and
+/// closes, but for a failed receive, a failed send, too few turns or want of memory; a hall whose histories go on explains a
+/// session still; the sessions of a desk divide what it did; every feed that a session opened folds to its query's value at
+/// every change up to which its answers are whole; and what is sent of it is, in order, a beginning of what its Takes give,
+/// which tell just what its queue skipped, each time ahead of what came behind it.
 pub fn sessions_hold()
     ensures in_order { AllInOrder }
     ensures frames_handled { AllFramesHandled }
