@@ -97,12 +97,14 @@ fn print<K: Sink>(
 /// `feeds`, how many were opened; and `folds`, how many of these were sent changes that lead from what they
 /// opened with to what their query gives.
 ///
-/// With other words the status is 2, and nothing is served or printed. What is proved of every session of these plans stands
-/// beside what these did: its input is handled in order, every whole frame of it; each frame that wants an answer is given
-/// just one, but for a CONTINUE that waits and after a failed send, and one waits only where its feed gave nothing in that very
-/// turn; a session ends with its first failed send; and every feed that it opened is its own term's, follows something, is told
-/// all that its Takes give, and folds to the value of its query. The clauses on refusals and on what a CHANGES comes to stand
-/// beside `run` of `reql_run`.
+/// With other words the status is 2, and nothing is served or printed. What is proved of every session of these plans
+/// stands beside what these did: its input is handled in order, every whole frame of it, but for a failed send, too few
+/// turns or want of memory; each frame that wants an answer is given just one, but for a CONTINUE that waits and after a
+/// failed send, and one waits only where its feed gave nothing in that very turn; a session ends with its first failed
+/// send; and every feed that it opened is its own term's, follows something, is told its plan's first items and then what
+/// its Takes give, and folds to the value of its query up to where its answers are whole. The clauses on refusals and
+/// plans, on which feeds a CHANGES asks for and what it comes to, and on the values of feeds stand beside `run` of
+/// `reql_run`.
 pub fn load<R, K: Sink>(rt: &R, alloc: Global, words: &[String], out: &mut K) -> Loaded
 where
     R: Threads + Wait + Sync,

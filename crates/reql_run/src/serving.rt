@@ -56,17 +56,18 @@ fn serve<R: Wait, L: Link + Drop, D: Dice + Drop, T: Clock + Drop>(
 /// order. K has at most 1024 bytes, and a greeting must bring it; without it the key is empty. The database `test` is
 /// there, and each table that is named, with its database and the key field `id`.
 ///
-/// The link is fresh. With other words the status is 2, and where memory is wanted before a session begins it is 8; then the
-/// link comes back as it was handed in, so that nothing was heard or said. What is proved of every session of these plans,
-/// whatever its input, stands beside what this one did: its input is handled in order, every whole frame of it; each frame that
-/// wants an answer is given just one, but for a CONTINUE that waits and after a failed send; a CONTINUE waits only where its
-/// feed gave nothing in that very turn, and is else answered by items or by a fault that has a cause; a valid input, which is
-/// nothing or a greeting that is accepted and whole frames within the limit, is handled to its last frame, and the status is
-/// 0, unless a receive or a send failed, it took more turns than there are, or memory was wanted; every request is answered
-/// by its plan, or by the first of its refusals; a CHANGES opens the feeds of its own terms, in their order and no others, or
-/// is answered by its refusal; and every feed that is open follows a document, a range or the first of an order, so that none
-/// stays silent since its term could not be read, is told all that its Takes give, in order and nothing else, and folds to
-/// the value of its query.
+/// The link is fresh. With other words the status is 2, and where memory is wanted before a session begins it is 8; then
+/// the link comes back as it was handed in, so that nothing was heard or said. What is proved of every session of these
+/// plans, whatever its input, stands beside what this one did: its input is handled in order, every whole frame of it, but
+/// for a failed send, too few turns or want of memory; each frame that wants an answer is given just one, but for a
+/// CONTINUE that waits and after a failed send; a CONTINUE waits only where its feed gave nothing in that very turn, and
+/// one on a feed is else answered by items, by a fault that has a cause, or by the end that a STOP tells; a valid input,
+/// which is nothing or a greeting that is accepted and whole frames within the limit, is handled to its last frame, and the
+/// status is 0, unless a receive or a send failed, it took more turns than there are, or memory was wanted; every request
+/// is answered by its plan, or by the first of its refusals; a CHANGES opens the feeds of its own terms, in their order and
+/// no others, or is answered by its refusal; and every feed that is open follows a document, a range or the first of an
+/// order, so that none stays silent since its term could not be read, is told its plan's first items and then what its
+/// Takes give, in order and nothing else, and folds to the value of its query up to where its answers are whole.
 pub fn run<R: Wait, L: Link + Drop, D: Dice + Drop, T: Clock + Drop>(
     rt: &R,
     alloc: Global,

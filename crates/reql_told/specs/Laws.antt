@@ -93,7 +93,8 @@ AllOpenFeedsAreTold = (key : List ℕ) (limits : Limits) (body : List ℕ) (nore
     → (talk key limits).asked body ≡ Start noreply plan → (c : Comes limits plan quiet count found) (opened : List Open) → AreOpenedNew [] c.feeds.openings c.replies opened
     → (talk key limits).next plan quiet count found ≡ Ends (told_of limits plan quiet count found c opened)
 
--- Where one is not opened those before it are closed in their order, and then the refusal is the answer.
+-- Where one is not opened those before it are closed in their order, and then the refusal is the answer. Where a journal failed or memory is wanted
+-- none is closed.
 abbrev pub AllDeniedFeedsAreClosed : Type 0
 AllDeniedFeedsAreClosed = (key : List ℕ) (limits : Limits) (body : List ℕ) (noreply : Bool) (plan : Plan) (quiet : Bool) (count : ℕ) (found : List Found)
     → (talk key limits).asked body ≡ Start noreply plan → (c : Comes limits plan quiet count found) (d : IsDenied limits plan quiet count found c)

@@ -13,8 +13,8 @@ pub fn plans_are_told()
 /// whatever the body is and whatever the moves of its plan are answered: none stays silent since its term could not be read.
 /// And it is its own term's: of those that CHANGES follows, the first one that has no answer yet. It is asked of the table
 /// that this term is on, to follow it with the data of its arguments in their places, by its shape and the options of CHANGES.
-/// What is run to open feeds for a plan is all feeds of its CHANGES in their order, each once the one before it is open, and
-/// none after one that isn't; no other feed is run for any body. Where a plan ends with a feed, all feeds of its CHANGES were
+/// What is run to open feeds for a plan is the feeds of its CHANGES in their order, as far as each one before is open; no other
+/// feed is run for any body. Where a plan ends with a feed, all feeds of its CHANGES were
 /// run and are open, and its arms, notes and first items are those of just these.
 pub fn feeds_are_read()
     ensures read { AllFeedsAreRead }
@@ -57,7 +57,7 @@ pub fn server_is_told()
 /// was given nothing by the arms that were taken from; a session that is given a valid input handles every frame of it and
 /// closes, but for a failed receive, a failed send, too few turns or want of memory; a hall whose histories go on explains a
 /// session still; the sessions of a desk divide what it did; every feed that a session opened folds to its query's value at
-/// every change up to which its answers are whole; and what is sent of it is, in order, a beginning of what its Takes give,
+/// every change up to which its answers are whole; and what is sent of it as changes and as skips is, in order, a beginning of what its Takes give,
 /// which tell just what its queue skipped, each time ahead of what came behind it.
 pub fn sessions_hold()
     ensures in_order { AllInOrder }
@@ -77,7 +77,7 @@ pub fn sessions_hold()
 
 /// The feeds that a session has open, whatever its key and its limits: each is that of a START of its own token, with its
 /// plan's arms, notes and batches; a CONTINUE on one is answered by items that were left or taken, or by a fault that has a
-/// cause, and never by a batch of nothing; what its Takes gave is sent, or is in the answer that is being told, or is kept to
+/// cause, and by no batch of nothing, where its batches have an item at least; what its Takes gave is sent, or is in the answer that is being told, or is kept to
 /// be sent; and all that is said of it is its plan's first items and then what its Takes gave, item by item as each is
 /// printed, with its arm's place and the plan's notes, so that where a token comes to wait nothing is still to be said.
 pub fn feeds_are_told()
