@@ -16,11 +16,11 @@ use Rattle.reql_write_law.specs.declared.command.Summary.{Summary}
 use Rattle.reql_story.specs.Requests.{Continue, Arm, Shown, Move, Found, Answer, Client, Internal, Batch, stamped}
 use Rattle.reql_story.specs.Books.{Open, Books, feed_of, closed, with_left, saw_names}
 use Rattle.reql_story.specs.Bodies.{full, at_wait}
-use Rattle.reql_story.specs.Tasks.{Talk, Firm, Stops, Drops, Settled, Task, Planning, Visiting, Telling, Closing, Next, at, close, wanted, denied, is_long, cut, cut_to, fitted, tell, continue_left, continue_feed, continue_on, visit_feed, begin, takes_up, next_arm, batch_of, gone, took_said, took, ran, Runs, Asks, is_empty, skipped_item, change_items, others, take_order, tell_now}
-use Rattle.reql_story.specs.Session.{Event, Turn, Visit, Greeted, Begin, Heard, Lost, Quiet, Finish, Broken, Long, Wear, Poor, On, OnNames, Dice, Clock, Come, Say, Want, Doing, Rest, Visits, Busy, Leaving, Mach, Step, Run, doing_next, goes_on, Plans, PlanDenied, LeavesArm}
+use Rattle.reql_story.specs.Tasks.{Talk, Firm, Stops, Drops, Settled, Task, Planning, Visiting, Telling, Closing, Next, at, only_tell, close, wanted, denied, is_long, cut, cut_to, fitted, tell, continue_left, continue_feed, continue_on, visit_feed, begin, takes_up, next_arm, batch_of, gone, took_said, took, ran, Runs, Asks, is_empty, skipped_item, change_items, others, take_order, tell_now}
+use Rattle.reql_story.specs.Session.{Event, Turn, Visit, Greeted, Begin, Heard, Lost, Quiet, Finish, Broken, Long, Wear, Poor, On, OnNames, Dice, Clock, Come, Say, Want, Doing, Rest, Visits, Busy, Leaving, Mach, Step, Run, doing_next, goes_on, tells, Plans, PlanDenied, LeavesArm}
 use Rattle.reql_story.specs.Waiting.{IsVisited, IsNothing}
 use Rattle.reql_story.specs.Opened.{Took}
-use Rattle.reql_story.specs.Continuing.{IsWithin, TookNothing, TookFirst, IsWanting, IsTaken, TellsItems, IsAnswer, IsItsFirst, EachContinues}
+use Rattle.reql_story.specs.Continuing.{IsWithin, IsFree, TookNothing, TookFirst, IsWanting, IsTaken, TellsItems, IsAnswer, IsItsFirst, EachContinues}
 use Rattle.reql_story.proofs.Shelves.{found_token}
 use Rattle.reql_story.proofs.Opened.{longer, place_of, took_still}
 
@@ -90,7 +90,7 @@ module _ {PL : Type 0} (k : Talk PL) where
     abbrev OnTask : Books → Task PL → Type 0
     OnTask b (Planning u plan noreply count found arms) = ⊥
     OnTask b (Visiting u arms points) = IsAt b u arms
-    OnTask b (Telling u a kept lose after) = Tells u a
+    OnTask b (Telling u a kept lose after) = (u ≡ token) × IsAnswer k feed a es × (after ≡ None)
     OnTask b (Closing u arms firm None) = ⊥
     OnTask b (Closing u arms firm (Some a)) = Tells u a
 
@@ -116,31 +116,37 @@ module _ {PL : Type 0} (k : Talk PL) where
     OnDoing b (Leaving arms end) = Unit {0}
 
     close_good : (b : Books) (u : ℕ) (arms : List Arm) (firm : Firm) (a : Answer) → Tells u a → Good (close b u arms firm (Some a))
-    close_good b u [] firm a h = h
+    close_good b u [] firm a h = (h.0, h.1, refl)
     close_good b u (arm ∷ arms) firm a h = h
+
+    telling_good : (b : Books) (u : ℕ) (a : Answer) (kept : Books) (lose : Option (List Arm)) → Tells u a → Good (at b (Telling u a kept lose None))
+    telling_good b u a kept lose h = (h.0, h.1, refl)
 
     tell_good : (b : Books) (u : ℕ) (a : Answer) (kept : Books) (arms : List Arm) (lose : Option (List Arm)) → ((z : Answer) → z ≡ fitted k a → Tells u z) → Good (tell k b u a kept arms lose)
     tell_good b u a kept arms lose h = either Good (is_long k a) (cut k b u a arms) (at b (Telling u a kept lose None))
         (λ t. close_good (closed u b) u arms Settled (cut_to k a) (h (cut_to k a) (sym (ap (λ c. cond c (cut_to k a) a) t))))
-        (λ t. h a (sym (ap (λ c. cond c (cut_to k a) a) t)))
+        (λ t. telling_good b u a kept lose (h a (sym (ap (λ c. cond c (cut_to k a) a) t))))
+
+    only_good : (b : Books) (u : ℕ) (a : Answer) → Tells u a → Good (only_tell b u a)
+    only_good b u a h = (h.0, h.1, refl)
 
     wanted_good : (b : Books) (u : ℕ) (task : Task PL) → Owns task → ((v : ℕ) → v ≡ token → Tells v Internal) → Good (wanted b task)
     wanted_good b w (Planning u plan noreply count found arms) h i = absurd h
-    wanted_good b w (Visiting u arms points) h i = i u h
-    wanted_good b w (Telling u a kept None after) h i = i u h.0
+    wanted_good b w (Visiting u arms points) h i = only_good b u Internal (i u h)
+    wanted_good b w (Telling u a kept None after) h i = only_good b u Internal (i u h.0)
     wanted_good b w (Telling u a kept (Some arms) after) h i = close_good (closed u b) u arms Settled Internal (i u h.0)
     wanted_good b w (Closing u arms firm None) h i = absurd h
     wanted_good b w (Closing u arms Settled (Some a)) h i = close_good b u arms Settled Internal (i u h.0)
-    wanted_good b w (Closing u arms Stops (Some a)) h i = i u h.0
-    wanted_good b w (Closing u arms Drops (Some a)) h i = i u h.0
+    wanted_good b w (Closing u arms Stops (Some a)) h i = only_good b u Internal (i u h.0)
+    wanted_good b w (Closing u arms Drops (Some a)) h i = only_good b u Internal (i u h.0)
 
     denied_good : (b : Books) (task : Task PL) (slot : ℕ) (cmd : Cmd) → Owns task → ((v : ℕ) → v ≡ token → Tells v Internal) → Good (denied b task slot cmd)
     denied_good b (Planning u plan noreply count found arms) slot cmd h i = absurd h
-    denied_good b (Visiting u arms points) slot cmd h i = i u h
+    denied_good b (Visiting u arms points) slot cmd h i = only_good b u Internal (i u h)
     denied_good b (Telling u a kept lose after) slot cmd h i = wanted_good b u (Telling u a kept lose after) h i
     denied_good b (Closing u arms firm None) slot cmd h i = absurd h
     denied_good b (Closing u [] firm (Some a)) slot cmd h i = wanted_good b u (Closing u [] firm (Some a)) h i
-    denied_good b (Closing u (arm ∷ arms) Stops (Some a)) slot cmd h i = i u h.0
+    denied_good b (Closing u (arm ∷ arms) Stops (Some a)) slot cmd h i = only_good b u Internal (i u h.0)
     denied_good b (Closing u (arm ∷ arms) Drops (Some a)) slot cmd h i = close_good (closed u b) u arms Settled a h
     denied_good b (Closing u (arm ∷ arms) Settled (Some a)) slot cmd h i = close_good (closed u b) u arms Settled a h
 
@@ -174,7 +180,7 @@ module _ {PL : Type 0} (k : Talk PL) where
           (λ full. tell_good b feed.token _ (with_left feed.token (drop feed.batch (change_items n arm items)) b) feed.arms (Some feed.arms) (λ z q. (own, inl (batch_tells n (stamped b.names points) skipped last items place t w full z q))))
 
       gone_good : (rest : List Arm) (points : List Point) → (t : Took arm feed.batch said_as.Gone es) → TookNothing feed.batch prior t.before → Good (gone k b feed arm points rest)
-      gone_good [] points t w = (own, inr (inl (record { points = stamped b.names points; took = record { took = record { prior = prior; arm = arm; rest = arms; all = all; took = t }; firsts = w }; is = refl })))
+      gone_good [] points t w = (own, inr (inl (record { points = stamped b.names points; took = record { took = record { prior = prior; arm = arm; rest = arms; all = all; took = t }; firsts = w }; is = refl })), refl)
       gone_good (x ∷ xs) points t w = (own, inr (inl (record { points = stamped b.names points; took = record { took = record { prior = prior; arm = arm; rest = arms; all = all; took = t }; firsts = w }; is = refl })))
 
       took_good : (points : List Point) (s : Said Summary Plain) → (t : Took arm feed.batch s es) → TookNothing feed.batch prior t.before → (IsNothing s → TookNothing feed.batch (prior ++ arm ∷ []) es) → Good (took_said k b feed arm arms points s)
@@ -350,7 +356,13 @@ module _ {PL : Type 0} (k : Talk PL) where
   starts m n token feed (Say u a whole) t i its s = absurd t
   starts m n token feed Want t i its s = absurd t
 
+  over : (y : Mach PL) (back : Option (List ℕ)) (t : ℕ) (kept : Books) (after : Option (List Arm)) (whole : Bool) → after ≡ None → IsFree (tells y back t kept after whole).doing
+  over y back t kept after false q = tt
+  over y None t kept after true q = subst (λ o. IsFree (tells y None t kept o true).doing) (sym q) tt
+  over y (Some left) t kept after true q = subst (λ o. IsFree (tells y (Some left) t kept o true).doing) (sym q) tt
+
   pub each_continues : EachContinues k
   each_continues m x y z token feed first es t a whole up i its s r within says =
       let h : OnDoing token feed es y.books y.doing = run_now token feed [] es x y r within (starts m x token feed first up i its s) in
-      subst (OnDoing token feed es y.books) says.doing h
+      let g : (t ≡ token) × IsAnswer k feed a es × (says.after ≡ None) = subst (OnDoing token feed es y.books) says.doing h in
+      (g.0, g.1, subst (λ (w : Mach PL). IsFree w.doing) (sym says.goes) (over y says.back t says.kept says.after whole g.2))

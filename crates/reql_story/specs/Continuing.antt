@@ -14,7 +14,7 @@ use Rattle.reql_story.specs.Requests.{Arm, Shown, Answer, Failed, Internal, Batc
 use Rattle.reql_story.specs.Books.{Open, has_token, cursor_of, feed_of}
 use Rattle.reql_story.specs.Bodies.{full}
 use Rattle.reql_story.specs.Tasks.{Talk, skipped_item, change_items, fitted, take_order}
-use Rattle.reql_story.specs.Session.{Event, Turn, Visit, Begin, On, Say, Want, Mach, Step, Run}
+use Rattle.reql_story.specs.Session.{Event, Turn, Visit, Begin, On, Say, Want, Doing, Busy, Mach, Step, Run}
 use Rattle.reql_story.specs.Opened.{TookArm}
 use Rattle.reql_story.specs.Waiting.{IsVisited, IsNothing}
 
@@ -25,6 +25,11 @@ IsWithin Visit = ⊥
 IsWithin (Begin frame is_read) = ⊥
 IsWithin (Say token a whole) = ⊥
 IsWithin e = Unit {0}
+
+-- no task is under way
+abbrev pub IsFree : {PL : Type 0} → Doing PL → Type 0
+IsFree (Busy back task) = ⊥
+IsFree other = Unit {0}
 
 -- these events are one Take of each of these arms, in their order, of so many items at most, and each found nothing
 abbrev pub TookNothing : ℕ → List Arm → List Event → Type 0
@@ -91,9 +96,10 @@ module _ {PL : Type 0} (k : Talk PL) where
 
   -- Where a CONTINUE on an open feed is visited, the next answer, with no turn, further visit or frame before it, has its token and
   -- is such a one: none tells of nothing where batches of the feed have an item, none tells of items that were neither left nor
-  -- taken, and none is a fault for which there was no cause. (A STOP answers one that waits by `Last`.)
+  -- taken, and none is a fault for which there was no cause. And with it the visit is over, so that nobody else is answered within
+  -- it. (A STOP answers one that waits by `Last`.)
   abbrev pub EachContinues : Type 0
   EachContinues = (m x y z : Mach PL) (token : ℕ) (feed : Open) (first : Event) (es : List Event) (t : ℕ) (a : Answer) (whole : Bool)
       → IsVisited k token m first → IsItsFirst token m first → feed_of token m.books.feeds ≡ Some feed
       → Step k m first x → Run k x es y → AllByRecursion IsWithin es → Step k y (Say t a whole) z
-      → (t ≡ token) × IsAnswer feed a es
+      → (t ≡ token) × IsAnswer feed a es × IsFree z.doing

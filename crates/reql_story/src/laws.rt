@@ -68,7 +68,7 @@ pub fn starts_to_wait<F: Planning>()
 /// Where a CONTINUE on an open feed is visited, the next answer, with no turn, further visit or frame before it, has its token. It tells of what was left of the feed; or, where nothing was left, of what the first Take gave that found something,
 /// of the feed's arms in their order; and of an item at least where batches have one. Or it is the fault of such an answer that
 /// is too long, of a table of which the first such Take was told that it was dropped, or of a history of which it was told that
-/// it is full; or INTERNAL, where memory was wanted.
+/// it is full; or INTERNAL, where memory was wanted. With it the visit is over.
 pub fn each_continues<F: Planning>()
     ensures { (f : F) → EachContinues (F.talk f) }
 {}
