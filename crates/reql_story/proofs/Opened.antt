@@ -19,7 +19,7 @@ use Rattle.reql_write_law.specs.declared.command.Summary.{Summary}
 use Rattle.reql_story.specs.Requests.{Asked, Unreadable, Unplanned, Start, Continue, Stop, NoreplyWait, ServerInfo, Arm, Shown, Answered, Unsent, One, Stream, Feed, Fault, Wanting, Move, Ends, Found, SawNames, Clocked, SawSlot, RanSlot, ChangedNames, Rolled, Answer, Internal, Last}
 use Rattle.reql_story.specs.Books.{Cursor, Open, Books, has_token, cursor_of, feed_of, is_open, opened, closed, with_rest, with_left, with_cursor, with_feed, saw_names}
 use Rattle.reql_story.specs.Tasks.{Talk, Firm, Stops, Drops, Settled, Task, Planning, Visiting, Telling, Closing, Next, at, close, wanted, denied, told, stop_feed, stop, is_long, cut, tell, comes_to, continue_cursor, continue_left, continue_feed, continue_on, visit_feed, visit, refuse, begin, takes_up, next_arm, batch_of, gone, took_said, took, ran, found_more, Runs, Asks, batch_size, is_empty, skipped_item, change_items, cut_to, others, arms_denied, take_order}
-use Rattle.reql_story.specs.Session.{Event, Turn, Visit, Greeted, Begin, Heard, Lost, Quiet, Finish, Broken, Long, Wear, Poor, On, OnNames, Dice, Clock, Come, Say, Want, Doing, Rest, Visits, Busy, Leaving, Mach, fresh, Step, Run, doing_next, goes_on, Plans, PlanDenied, LeavesArm}
+use Rattle.reql_story.specs.Session.{Event, Turn, Visit, Greeted, Begin, Heard, Lost, Quiet, Finish, Broken, Long, Wear, Poor, On, OnNames, Dice, Clock, Come, Say, Want, Doing, Rest, Visits, Busy, Leaving, Mach, fresh, Step, Run, begun, begun_of, doing_next, goes_on, Plans, PlanDenied, LeavesArm}
 use Rattle.reql_story.specs.Opened.{IsPlanned, IsOpened, EachIsOpened, IsTail, IsGiven, TookArm, AreApart, found_by, found_in}
 use Rattle.reql_story.proofs.Shelves.{all_filter, which, or_false, found_token}
 
@@ -308,9 +308,12 @@ module _ {PL : Type 0} (k : Talk PL) where
   more_found : (es : List Event) (e : Event) → found_in (es ++ e ∷ []) ≡ found_in es ++ found_by e
   more_found es e = flat_map-append found_by es (e ∷ []) ∙ ap (λ z. found_in es ++ z) (append-nil (found_by e))
 
+  none_begun : (es : List Event) (e : Event) → begun es ≡ [] → begun_of e ≡ [] → begun (es ++ e ∷ []) ≡ []
+  none_begun es e h g = flat_map-append begun_of es (e ∷ []) ∙ ap (λ z. z ++ begun (e ∷ [])) h ∙ append-nil (begun_of e) ∙ g
+
   -- an event that finds something
-  finds_more : (token : ℕ) (plan : PL) (noreply : Bool) (count : ℕ) (found : List Found) (es : List Event) (e : Event) → IsPlanned k token plan noreply count found es → IsPlanned k token plan noreply count (found ++ found_by e) (es ++ e ∷ [])
-  finds_more token plan noreply count found es e p = record {
+  finds_more : (token : ℕ) (plan : PL) (noreply : Bool) (count : ℕ) (found : List Found) (es : List Event) (e : Event) → begun_of e ≡ [] → IsPlanned k token plan noreply count found es → IsPlanned k token plan noreply count (found ++ found_by e) (es ++ e ∷ [])
+  finds_more token plan noreply count found es e n p = record {
     before = p.before;
     start = p.start;
     frame = p.frame;
@@ -322,6 +325,7 @@ module _ {PL : Type 0} (k : Talk PL) where
     free = p.free;
     counts = p.counts;
     finds = ap (λ z. z ++ found_by e) p.finds ∙ sym (more_found p.during e);
+    last = none_begun p.during e p.last n;
   }
 
   opened_still : (f : Open) (es : List Event) (e : Event) → IsOpened k f es → IsOpened k f (es ++ e ∷ [])
@@ -414,11 +418,11 @@ module _ {PL : Type 0} (k : Talk PL) where
     still : (x : Mach PL) → n ≡ x → Are now x.books → DoingFits k (Its now) (Plan now) (opened_with now) x.books x.doing → All now n
     still x g h d = subst (All now) (sym g) (h, d)
 
-    grows : (t : Task PL) (x : Found) → found_by e ≡ x ∷ [] → Fits es m.books t → Grows k (Its now) (Plan now) (opened_with now) m.books t x
-    grows (Planning u plan noreply count found arms) x q f = (subst (λ z. IsPlanned k u plan noreply count (found ++ z) now) q (finds_more u plan noreply count found es e f.0), f.1)
-    grows (Visiting u arms points) x q f = tt
-    grows (Telling u a kept lose after) x q f = tt
-    grows (Closing u arms firm a) x q f = tt
+    grows : (t : Task PL) (x : Found) → found_by e ≡ x ∷ [] → begun_of e ≡ [] → Fits es m.books t → Grows k (Its now) (Plan now) (opened_with now) m.books t x
+    grows (Planning u plan noreply count found arms) x q n f = (subst (λ z. IsPlanned k u plan noreply count (found ++ z) now) q (finds_more u plan noreply count found es e n f.0), f.1)
+    grows (Visiting u arms points) x q n f = tt
+    grows (Telling u a kept lose after) x q n f = tt
+    grows (Closing u arms firm a) x q n f = tt
 
     task_fits : (back : Option (List ℕ)) (task : Task PL) → m.doing ≡ Busy back task → All es m → Fits es m.books task
     task_fits back task d h = subst (λ z. DoingFits k (Its es) (Plan es) (opened_with es) m.books z) d h.1
@@ -436,9 +440,9 @@ module _ {PL : Type 0} (k : Talk PL) where
       same_grows b (Telling u y kept lose after) x g z = tt
       same_grows b (Closing u arms firm y) x g z = tt
 
-      planned : (move : Move) (b : Books) (x : Found) → found_by e ≡ x ∷ [] → Plans k m move b x n → b.feeds ≡ m.books.feeds → All now n
-      planned move b x q s g = on m s.back (found_more k b s.task x) s.goes
-          (found_good k (Its now) (Plan now) (opened_with now) b s.task x move s.asks (subst (λ z. AllByRecursion (Its now) z × AreApart z) (sym g) a) (same_grows b s.task x g (grows s.task x q (task_fits s.back s.task s.doing h))))
+      planned : (move : Move) (b : Books) (x : Found) → found_by e ≡ x ∷ [] → begun_of e ≡ [] → Plans k m move b x n → b.feeds ≡ m.books.feeds → All now n
+      planned move b x q v s g = on m s.back (found_more k b s.task x) s.goes
+          (found_good k (Its now) (Plan now) (opened_with now) b s.task x move s.asks (subst (λ z. AllByRecursion (Its now) z × AreApart z) (sym g) a) (same_grows b s.task x g (grows s.task x q v (task_fits s.back s.task s.doing h))))
 
       refused : (move : Move) → PlanDenied k m move n → All now n
       refused move s = on m s.back (wanted m.books s.task) s.goes (wanted_good k (Its now) (Plan now) (opened_with now) m.books s.task a)
@@ -454,7 +458,7 @@ module _ {PL : Type 0} (k : Talk PL) where
   step_all es m n (Begin frame true) r s h =
       on es m n (Begin frame true) (record m { held = s.0 }) None (takes_up k m.books frame.token frame.body true) s.5
       (begin_good k (Its (es ++ (Begin frame true) ∷ [])) (Plan (es ++ (Begin frame true) ∷ [])) (opened_with (es ++ (Begin frame true) ∷ [])) m.books frame.token (k.asked frame.body)
-      (λ noreply plan q free. record { before = es; start = m; frame = frame; during = []; events = refl; led = r; same = refl; asks = q; free = free; counts = refl; finds = refl }) (all_still m.books.feeds es (Begin frame true) h.0.0, h.0.1))
+      (λ noreply plan q free. record { before = es; start = m; frame = frame; during = []; events = refl; led = r; same = refl; asks = q; free = free; counts = refl; finds = refl; last = refl }) (all_still m.books.feeds es (Begin frame true) h.0.0, h.0.1))
   step_all es m n (Begin frame false) r s h = on es m n (Begin frame false) (record m { held = s.0 }) None (takes_up k m.books frame.token frame.body false) s.5 ((all_still m.books.feeds es (Begin frame false) h.0.0, h.0.1), (all_still m.books.feeds es (Begin frame false) h.0.0, h.0.1))
   step_all es m n (Heard bytes) r s h = still es m n (Heard bytes) _ s.2 (all_still m.books.feeds es (Heard bytes) h.0.0, h.0.1) tt
   step_all es m n (Lost bytes) r s h = still es m n (Lost bytes) _ s.2 (all_still m.books.feeds es (Lost bytes) h.0.0, h.0.1) tt
@@ -467,20 +471,20 @@ module _ {PL : Type 0} (k : Talk PL) where
   step_all es m n (On slot (Ran place order reply) saved) r s h = elim s [
     | inl x ↦ on es m n (On slot (Ran place order reply) saved) m x.back (ran k m.books x.task slot order.cmd reply saved) x.goes
         (ran_good k (Its (es ++ (On slot (Ran place order reply) saved) ∷ [])) (Plan (es ++ (On slot (Ran place order reply) saved) ∷ [])) (opened_with (es ++ (On slot (Ran place order reply) saved) ∷ [])) m.books x.task slot order reply saved x.runs (all_still m.books.feeds es (On slot (Ran place order reply) saved) h.0.0, h.0.1) (past es m n (On slot (Ran place order reply) saved) x.task (task_fits es m n (On slot (Ran place order reply) saved) x.back x.task x.doing h))
-        (grows es m n (On slot (Ran place order reply) saved) x.task (RanSlot slot reply saved) refl (task_fits es m n (On slot (Ran place order reply) saved) x.back x.task x.doing h))
+        (grows es m n (On slot (Ran place order reply) saved) x.task (RanSlot slot reply saved) refl refl (task_fits es m n (On slot (Ran place order reply) saved) x.back x.task x.doing h))
         (λ u f arm prior arms skipped last items e all a b says. opened_took es f place order reply saved slot arm prior arms skipped last items all a b says (found_so (λ (f : Open). IsOpened k f es) u m.books.feeds f e h.0.0)))
     | inr x ↦ by_arm es m n (On slot (Ran place order reply) saved) h (all_still m.books.feeds es (On slot (Ran place order reply) saved) h.0.0, h.0.1) slot x.0 x.2
   ]
-  step_all es m n (On slot (Looked place question look) saved) r s h = planned es m n (On slot (Looked place question look) saved) h (all_still m.books.feeds es (On slot (Looked place question look) saved) h.0.0, h.0.1) _ m.books (SawSlot slot look) refl s refl
+  step_all es m n (On slot (Looked place question look) saved) r s h = planned es m n (On slot (Looked place question look) saved) h (all_still m.books.feeds es (On slot (Looked place question look) saved) h.0.0, h.0.1) _ m.books (SawSlot slot look) refl refl s refl
   step_all es m n (On slot (Denied place) saved) r s h = elim s [
     | inl x ↦ on es m n (On slot (Denied place) saved) m x.back (denied m.books x.task slot x.order.cmd) x.goes (denied_good k (Its (es ++ (On slot (Denied place) saved) ∷ [])) (Plan (es ++ (On slot (Denied place) saved) ∷ [])) (opened_with (es ++ (On slot (Denied place) saved) ∷ [])) m.books x.task slot x.order.cmd (all_still m.books.feeds es (On slot (Denied place) saved) h.0.0, h.0.1))
     | inr y ↦ elim y [ inl x ↦ refused es m n (On slot (Denied place) saved) h (all_still m.books.feeds es (On slot (Denied place) saved) h.0.0, h.0.1) _ x | inr x ↦ by_arm es m n (On slot (Denied place) saved) h (all_still m.books.feeds es (On slot (Denied place) saved) h.0.0, h.0.1) slot x.0 x.1 ]
   ]
-  step_all es m n (OnNames (Ran place cmd reply)) r s h = planned es m n (OnNames (Ran place cmd reply)) h (all_still m.books.feeds es (OnNames (Ran place cmd reply)) h.0.0, h.0.1) _ (saw_names reply.place m.books) (ChangedNames reply.place reply) refl s refl
-  step_all es m n (OnNames (Looked place question names)) r s h = planned es m n (OnNames (Looked place question names)) h (all_still m.books.feeds es (OnNames (Looked place question names)) h.0.0, h.0.1) _ (saw_names place m.books) (SawNames place names) refl s refl
+  step_all es m n (OnNames (Ran place cmd reply)) r s h = planned es m n (OnNames (Ran place cmd reply)) h (all_still m.books.feeds es (OnNames (Ran place cmd reply)) h.0.0, h.0.1) _ (saw_names reply.place m.books) (ChangedNames reply.place reply) refl refl s refl
+  step_all es m n (OnNames (Looked place question names)) r s h = planned es m n (OnNames (Looked place question names)) h (all_still m.books.feeds es (OnNames (Looked place question names)) h.0.0, h.0.1) _ (saw_names place m.books) (SawNames place names) refl refl s refl
   step_all es m n (OnNames (Denied place)) r s h = elim s [ inl x ↦ refused es m n (OnNames (Denied place)) h (all_still m.books.feeds es (OnNames (Denied place)) h.0.0, h.0.1) _ x | inr x ↦ refused es m n (OnNames (Denied place)) h (all_still m.books.feeds es (OnNames (Denied place)) h.0.0, h.0.1) _ x.1 ]
-  step_all es m n (Clock moment) r s h = planned es m n (Clock moment) h (all_still m.books.feeds es (Clock moment) h.0.0, h.0.1) _ m.books (Clocked moment) refl s refl
-  step_all es m n (Dice bytes) r s h = planned es m n (Dice bytes) h (all_still m.books.feeds es (Dice bytes) h.0.0, h.0.1) _ m.books (Rolled bytes) refl s refl
+  step_all es m n (Clock moment) r s h = planned es m n (Clock moment) h (all_still m.books.feeds es (Clock moment) h.0.0, h.0.1) _ m.books (Clocked moment) refl refl s refl
+  step_all es m n (Dice bytes) r s h = planned es m n (Dice bytes) h (all_still m.books.feeds es (Dice bytes) h.0.0, h.0.1) _ m.books (Rolled bytes) refl refl s refl
   step_all es m n Come r s h =
       let p : IsPlanned k s.token s.plan s.noreply s.count s.found es × Others s.token m.books.feeds = task_fits es m n Come s.back (Planning s.token s.plan s.noreply s.count s.found s.arms) s.doing h in
       on es m n Come m s.back (comes_to k m.books s.token (batch_size k s.plan) s.found s.arms s.to) s.goes

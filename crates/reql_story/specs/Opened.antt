@@ -12,7 +12,7 @@ use Rattle.reql_law.specs.declared.reply.Saved.{Saved}
 use Rattle.reql_story.specs.Requests.{Arm, Start, Shown, Feed, Ends, Found, SawNames, Clocked, SawSlot, RanSlot, ChangedNames, Rolled}
 use Rattle.reql_story.specs.Books.{Open, is_open, opened}
 use Rattle.reql_story.specs.Tasks.{Talk, batch_size, take_order, change_items}
-use Rattle.reql_story.specs.Session.{Event, Begin, On, OnNames, Clock, Dice, Come, Mach, fresh, Run}
+use Rattle.reql_story.specs.Session.{Event, Begin, On, OnNames, Clock, Dice, Come, Mach, fresh, Run, begun}
 
 -- what an event finds for the plan that is under way
 abbrev pub found_by : Event → List Found
@@ -46,11 +46,11 @@ pub record TookArm (arms : List Arm) (max : ℕ) (answer : Said Summary Plain) (
   pub all : arms ≡ prior ++ arm ∷ rest
   pub took : Took arm max answer es
 
--- what is left when a front was sent
+-- what is left behind a front
 abbrev pub IsTail : List Shown → List Shown → Type 0
 IsTail left items = (front : List Shown) × (items ≡ front ++ left)
 
--- a Take of one of these arms gave what is left, and a front of it
+-- a Take of one of these arms gave what is left, behind a front
 pub record IsGiven (arms : List Arm) (max : ℕ) (left : List Shown) (es : List Event) : Type 0 where
   pub skipped : ℕ
   pub last : ℕ
@@ -64,8 +64,8 @@ AreApart [] = Unit {0}
 AreApart (f ∷ fs) = AllByRecursion (λ (g : Open). nat_eq g.token f.token ≡ false) fs × AreApart fs
 
 module _ {PL : Type 0} (k : Talk PL) where
-  -- These events, which led here, have a START of the token, which had nothing open then, for this plan; since it was taken up they
-  -- found just this for the plan. So many cursors and feeds were open when it was taken up.
+  -- These events, which led here, have a START of the token, which had nothing open then, for this plan, as the last frame that was
+  -- taken; since then they found just this for the plan. So many cursors and feeds were open when it was taken up.
   pub record IsPlanned (token : ℕ) (plan : PL) (noreply : Bool) (count : ℕ) (found : List Found) (es : List Event) : Type 0 where
     pub before : List Event
     pub start : Mach PL
@@ -78,6 +78,7 @@ module _ {PL : Type 0} (k : Talk PL) where
     pub free : is_open token start.books ≡ false
     pub counts : count ≡ opened start.books
     pub finds : found ≡ found_in during
+    pub last : begun during ≡ []
 
   -- These events opened the feed: a plan that a START of its token asked for came to its end with the feed's arms and notes, and with
   -- these first items, and the feed's batches have that plan's size. What is left of it is a tail of these first items, or of the
