@@ -1,7 +1,9 @@
 -- What a CONTINUE on a feed is answered: from where it is visited to its answer.
-use Rattle.std.proofs.Common.{◌≡◌, ◌≤◌, ◌-◌, inl, inr, ℕ, zero, suc, Bool, true, false, true≢false, cond, List, [], ◌∷◌, ◌++◌, take, drop, length, Option, Some, None, refl, sym, ap, subst, ◌∙◌, arith, append_assoc, append-nil}
+use Rattle.std.proofs.Common.{◌≡◌, ◌≤◌, ◌-◌, inl, inr, ℕ, zero, suc, Bool, true, false, true≢false, cond, List, [], ◌∷◌, ◌++◌, map, take, drop, length, Option, Some, None, refl, sym, ap, subst, ◌∙◌, arith, append_assoc, append-nil}
+use Rattle.std.specs.Prelude.{nat_eq}
 use Rattle.std.specs.List.{AllByRecursion}
 use Rattle.std.proofs.lemmas.Bool.{eqb-true}
+use Rattle.reql_table_machine.proofs.Tracking.{split}
 use Rattle.reql_table_machine.specs.declared.command.Said.{Said}
 use Rattle.reql_table_machine.specs.declared.command.Said.TheVariants as said_as
 use Rattle.reql_datum.specs.Plain.{Plain}
@@ -35,6 +37,14 @@ some_is x y h = ap (λ o. get x o) h
     get d None = d
     get d (Some z) = z
 
+found_left : (u : ℕ) (left : List Shown) (f : Open) (fs : List Open) → feed_of u fs ≡ Some f → feed_of u (map (λ g. cond (nat_eq g.token u) (record g { left = left }) g) fs) ≡ Some (record f { left = left })
+found_left u left f [] e = absurd (let z : None ≡ Some f = e in cc)
+found_left u left f (g ∷ gs) e =
+    let more : List Open = map (λ g. cond (nat_eq g.token u) (record g { left = left }) g) gs in
+    split (nat_eq g.token u) (λ c. nat_eq g.token u ≡ c → cond c (Some g) (feed_of u gs) ≡ Some f → feed_of u (cond c (record g { left = left }) g ∷ more) ≡ Some (record f { left = left }))
+    (λ _ t z. ap (λ c. cond c (Some (record g { left = left })) (feed_of u more)) t ∙ ap (λ (x : Open). Some (record x { left = left })) (some_is g f z))
+    (λ _ t z. ap (λ c. cond c (Some g) (feed_of u more)) t ∙ found_left u left f gs z) refl e
+
 -- a batch of something that is cut to a size has an item
 some_front : (n : ℕ) (xs : List Shown) → is_empty xs ≡ false → 1 ≤ n → take n xs ≡ [] → ⊥
 some_front n [] h le e = absurd (true≢false h)
@@ -48,8 +58,8 @@ some_batch n (x ∷ xs) changes h le e = absurd (let z : x ∷ (xs ++ take n cha
 abbrev first_still : (arms : List Arm) (max : ℕ) (answer : Said Summary Plain) (es : List Event) (e : Event) → TookFirst arms max answer es → TookFirst arms max answer (es ++ e ∷ [])
 first_still arms max answer es e t = record { took = took_still arms max answer es e t.took; firsts = t.firsts }
 
-taken_still : (feed : Open) (items : List Shown) (es : List Event) (e : Event) → IsTaken feed items es → IsTaken feed items (es ++ e ∷ [])
-taken_still feed items es e t = record { skipped = t.skipped; last = t.last; changes = t.changes; took = first_still feed.arms feed.batch (said_as.Batch t.skipped t.last t.changes) es e t.took; given = t.given }
+taken_still : (feed : Open) (items rest : List Shown) (es : List Event) (e : Event) → IsTaken feed items rest es → IsTaken feed items rest (es ++ e ∷ [])
+taken_still feed items rest es e t = record { skipped = t.skipped; last = t.last; changes = t.changes; took = first_still feed.arms feed.batch (said_as.Batch t.skipped t.last t.changes) es e t.took; given = t.given; left = t.left }
 
 -- one more arm was taken from in vain
 nothing_more : (max : ℕ) (prior : List Arm) (arm : Arm) (es : List Event) (e : Event) (place : ℕ) (reply : Told) (kept : Saved) → e ≡ On arm.slot (Ran place (take_order arm.feed max) reply) kept → IsNothing reply.said → TookNothing max prior es
@@ -58,9 +68,9 @@ nothing_more max [] arm es e place reply kept q none h = (place, reply, kept, []
 nothing_more max (a ∷ prior) arm es e place reply kept q none h = (h.0, h.1, h.2, h.3 ++ e ∷ [], ap (λ z. z ++ e ∷ []) h.4, h.5, nothing_more max prior arm h.3 e place reply kept q none h.6)
 
 module _ {PL : Type 0} (k : Talk PL) where
-  answer_still : (feed : Open) (a : Answer) (es : List Event) (e : Event) → IsAnswer k feed a es → IsAnswer k feed a (es ++ e ∷ [])
-  answer_still feed a es e h = elim h [
-    | inl x ↦ inl (record { items = x.items; points = x.points; is = x.is; some = x.some; source = elim x.source [ inl l ↦ inl l | inr t ↦ inr (t.0, taken_still feed x.items es e t.1) ] })
+  answer_still : (feed : Open) (a : Answer) (es : List Event) (e : Event) (b : Books) → IsAnswer k feed a es b → IsAnswer k feed a (es ++ e ∷ []) b
+  answer_still feed a es e b h = elim h [
+    | inl x ↦ inl (record { items = x.items; rest = x.rest; points = x.points; is = x.is; some = x.some; source = elim x.source [ inl l ↦ inl l | inr t ↦ inr (t.0, taken_still feed x.items x.rest es e t.1) ]; kept = x.kept })
     | inr y ↦ elim y [
       | inl x ↦ inr (inl (record { points = x.points; took = first_still feed.arms feed.batch said_as.Gone es e x.took; is = x.is }))
       | inr z ↦ elim z [
@@ -71,8 +81,8 @@ module _ {PL : Type 0} (k : Talk PL) where
   ]
 
   -- memory is wanted now
-  wants_now : (feed : Open) (es : List Event) (e : Event) → IsWanting e → IsAnswer k feed Internal (es ++ e ∷ [])
-  wants_now feed es e w = inr (inr (inr (refl, record { before = es; event = e; after = []; events = refl; is = w })))
+  wants_now : (feed : Open) (es : List Event) (e : Event) (b : Books) → IsWanting e → IsAnswer k feed Internal (es ++ e ∷ []) b
+  wants_now feed es e b w = inr (inr (inr (refl, record { before = es; event = e; after = []; events = refl; is = w })))
 
   module _ (token : ℕ) (feed : Open) (es : List Event) where
     -- the arms that are still to be taken from, behind others
@@ -85,12 +95,12 @@ module _ {PL : Type 0} (k : Talk PL) where
       takes : TookNothing feed.batch prior es
 
     abbrev Tells : ℕ → Answer → Type 0
-    Tells u a = (u ≡ token) × IsAnswer k feed a es
+    Tells u a = (u ≡ token) × ((b : Books) → IsAnswer k feed a es b)
 
     abbrev OnTask : Books → Task PL → Type 0
     OnTask b (Planning u plan noreply count found arms) = ⊥
     OnTask b (Visiting u arms points) = IsAt b u arms
-    OnTask b (Telling u a kept lose after) = (u ≡ token) × IsAnswer k feed a es × (after ≡ None)
+    OnTask b (Telling u a kept lose after) = (u ≡ token) × IsAnswer k feed a es kept × (after ≡ None)
     OnTask b (Closing u arms firm None) = ⊥
     OnTask b (Closing u arms firm (Some a)) = Tells u a
 
@@ -98,7 +108,7 @@ module _ {PL : Type 0} (k : Talk PL) where
     abbrev Owns : Task PL → Type 0
     Owns (Planning u plan noreply count found arms) = ⊥
     Owns (Visiting u arms points) = u ≡ token
-    Owns (Telling u a kept lose after) = Tells u a
+    Owns (Telling u a kept lose after) = u ≡ token
     Owns (Closing u arms firm None) = ⊥
     Owns (Closing u arms firm (Some a)) = Tells u a
 
@@ -116,25 +126,26 @@ module _ {PL : Type 0} (k : Talk PL) where
     OnDoing b (Leaving arms end) = Unit {0}
 
     close_good : (b : Books) (u : ℕ) (arms : List Arm) (firm : Firm) (a : Answer) → Tells u a → Good (close b u arms firm (Some a))
-    close_good b u [] firm a h = (h.0, h.1, refl)
+    close_good b u [] firm a h = (h.0, h.1 b, refl)
     close_good b u (arm ∷ arms) firm a h = h
 
-    telling_good : (b : Books) (u : ℕ) (a : Answer) (kept : Books) (lose : Option (List Arm)) → Tells u a → Good (at b (Telling u a kept lose None))
-    telling_good b u a kept lose h = (h.0, h.1, refl)
+    telling_good : (b : Books) (u : ℕ) (a : Answer) (kept : Books) (lose : Option (List Arm)) → u ≡ token → IsAnswer k feed a es kept → Good (at b (Telling u a kept lose None))
+    telling_good b u a kept lose own h = (own, h, refl)
 
-    tell_good : (b : Books) (u : ℕ) (a : Answer) (kept : Books) (arms : List Arm) (lose : Option (List Arm)) → ((z : Answer) → z ≡ fitted k a → Tells u z) → Good (tell k b u a kept arms lose)
-    tell_good b u a kept arms lose h = either Good (is_long k a) (cut k b u a arms) (at b (Telling u a kept lose None))
-        (λ t. close_good (closed u b) u arms Settled (cut_to k a) (h (cut_to k a) (sym (ap (λ c. cond c (cut_to k a) a) t))))
-        (λ t. telling_good b u a kept lose (h a (sym (ap (λ c. cond c (cut_to k a) a) t))))
+    -- what is kept where an answer isn't too long
+    tell_good : (b : Books) (u : ℕ) (a : Answer) (kept : Books) (arms : List Arm) (lose : Option (List Arm)) → u ≡ token → ((z : Answer) (c : Books) → z ≡ fitted k a → (is_long k a ≡ false → c ≡ kept) → IsAnswer k feed z es c) → Good (tell k b u a kept arms lose)
+    tell_good b u a kept arms lose own h = either Good (is_long k a) (cut k b u a arms) (at b (Telling u a kept lose None))
+        (λ t. close_good (closed u b) u arms Settled (cut_to k a) (own, λ c. h (cut_to k a) c (sym (ap (λ z. cond z (cut_to k a) a) t)) (λ f. absurd (true≢false (sym t ∙ f)))))
+        (λ t. telling_good b u a kept lose own (h a kept (sym (ap (λ z. cond z (cut_to k a) a) t)) (λ f. refl)))
 
     only_good : (b : Books) (u : ℕ) (a : Answer) → Tells u a → Good (only_tell b u a)
-    only_good b u a h = (h.0, h.1, refl)
+    only_good b u a h = (h.0, h.1 b, refl)
 
     wanted_good : (b : Books) (u : ℕ) (task : Task PL) → Owns task → ((v : ℕ) → v ≡ token → Tells v Internal) → Good (wanted b task)
     wanted_good b w (Planning u plan noreply count found arms) h i = absurd h
     wanted_good b w (Visiting u arms points) h i = only_good b u Internal (i u h)
-    wanted_good b w (Telling u a kept None after) h i = only_good b u Internal (i u h.0)
-    wanted_good b w (Telling u a kept (Some arms) after) h i = close_good (closed u b) u arms Settled Internal (i u h.0)
+    wanted_good b w (Telling u a kept None after) h i = only_good b u Internal (i u h)
+    wanted_good b w (Telling u a kept (Some arms) after) h i = close_good (closed u b) u arms Settled Internal (i u h)
     wanted_good b w (Closing u arms firm None) h i = absurd h
     wanted_good b w (Closing u arms Settled (Some a)) h i = close_good b u arms Settled Internal (i u h.0)
     wanted_good b w (Closing u arms Stops (Some a)) h i = only_good b u Internal (i u h.0)
@@ -150,6 +161,10 @@ module _ {PL : Type 0} (k : Talk PL) where
     denied_good b (Closing u (arm ∷ arms) Drops (Some a)) slot cmd h i = close_good (closed u b) u arms Settled a h
     denied_good b (Closing u (arm ∷ arms) Settled (Some a)) slot cmd h i = close_good (closed u b) u arms Settled a h
 
+    -- the feed is open still where it goes on with other items left
+    keeps_on : (b : Books) → feed.token ≡ token → feed_of token b.feeds ≡ Some feed → (left : List Shown) (c : Books) → c ≡ with_left feed.token left b → feed_of feed.token c.feeds ≡ Some (record feed { left = left })
+    keeps_on b own its left c g = ap (λ (z : Books). feed_of feed.token z.feeds) g ∙ found_left feed.token left feed b.feeds (ap (λ z. feed_of z b.feeds) own ∙ its)
+
     -- ---- a Take of an arm
     module _ (b : Books) (own : feed.token ≡ token) (its : feed_of token b.feeds ≡ Some feed) (none : feed.left ≡ []) (arm : Arm) (arms prior : List Arm) (all : feed.arms ≡ prior ++ arm ∷ arms) where
       next_good : (rest : List Arm) (points : List Point) → TookNothing feed.batch (prior ++ arm ∷ []) es → arms ≡ rest → Good (next_arm k b feed.token rest points)
@@ -157,9 +172,11 @@ module _ {PL : Type 0} (k : Talk PL) where
       next_good (x ∷ xs) points n q = record { same = own; its = its; left = none; prior = prior ++ arm ∷ []; all = all ∙ ap (λ z. prior ++ arm ∷ z) q ∙ sym (append_assoc prior (arm ∷ []) (x ∷ xs)); takes = n }
 
       batch_tells : (n : ℕ) (points : Stamped) (skipped last : ℕ) (items : List (ℕ × Plain)) → n ≡ length prior → (t : Took arm feed.batch (said_as.Batch skipped last items) es) → TookNothing feed.batch prior t.before → is_empty (skipped_item n arm skipped last ++ change_items n arm items) ≡ false
-          → (a : Answer) → a ≡ fitted k (Batch feed.notes (skipped_item n arm skipped last ++ take feed.batch (change_items n arm items)) (Some points)) → TellsItems k feed a es
-      batch_tells n points skipped last items place t w full a q = record {
+          → (a : Answer) (c : Books) → a ≡ fitted k (Batch feed.notes (skipped_item n arm skipped last ++ take feed.batch (change_items n arm items)) (Some points))
+          → (is_long k (Batch feed.notes (skipped_item n arm skipped last ++ take feed.batch (change_items n arm items)) (Some points)) ≡ false → c ≡ with_left feed.token (drop feed.batch (change_items n arm items)) b) → TellsItems k feed a es c
+      batch_tells n points skipped last items place t w full a c q g = record {
         items = skipped_item n arm skipped last ++ take feed.batch (change_items n arm items);
+        rest = drop feed.batch (change_items n arm items);
         points = Some points;
         is = q;
         some = some_batch feed.batch (skipped_item n arm skipped last) (change_items n arm items) full;
@@ -171,38 +188,43 @@ module _ {PL : Type 0} (k : Talk PL) where
             changes = items;
             took = record { took = record { prior = prior; arm = arm; rest = arms; all = all; took = t }; firsts = w };
             given = ap (λ z. skipped_item z arm skipped last ++ take feed.batch (change_items z arm items)) place;
+            left = ap (λ z. drop feed.batch (change_items z arm items)) place;
           },
         );
+        kept = λ f. keeps_on b own its (drop feed.batch (change_items n arm items)) c (g f);
       }
 
       batch_good : (n : ℕ) (points : List Point) (skipped last : ℕ) (items : List (ℕ × Plain)) → n ≡ length prior → (t : Took arm feed.batch (said_as.Batch skipped last items) es) → TookNothing feed.batch prior t.before → Good (batch_of k b feed n arm points skipped last items)
       batch_good n points skipped last items place t w = either Good (is_empty (skipped_item n arm skipped last ++ change_items n arm items)) _ _ (λ _. tt)
-          (λ full. tell_good b feed.token _ (with_left feed.token (drop feed.batch (change_items n arm items)) b) feed.arms (Some feed.arms) (λ z q. (own, inl (batch_tells n (stamped b.names points) skipped last items place t w full z q))))
+          (λ full. tell_good b feed.token _ (with_left feed.token (drop feed.batch (change_items n arm items)) b) feed.arms (Some feed.arms) own (λ z c q g. inl (batch_tells n (stamped b.names points) skipped last items place t w full z c q g)))
 
       gone_good : (rest : List Arm) (points : List Point) → (t : Took arm feed.batch said_as.Gone es) → TookNothing feed.batch prior t.before → Good (gone k b feed arm points rest)
       gone_good [] points t w = (own, inr (inl (record { points = stamped b.names points; took = record { took = record { prior = prior; arm = arm; rest = arms; all = all; took = t }; firsts = w }; is = refl })), refl)
-      gone_good (x ∷ xs) points t w = (own, inr (inl (record { points = stamped b.names points; took = record { took = record { prior = prior; arm = arm; rest = arms; all = all; took = t }; firsts = w }; is = refl })))
+      gone_good (x ∷ xs) points t w = (own, λ c. inr (inl (record { points = stamped b.names points; took = record { took = record { prior = prior; arm = arm; rest = arms; all = all; took = t }; firsts = w }; is = refl })))
 
       took_good : (points : List Point) (s : Said Summary Plain) → (t : Took arm feed.batch s es) → TookNothing feed.batch prior t.before → (IsNothing s → TookNothing feed.batch (prior ++ arm ∷ []) es) → Good (took_said k b feed arm arms points s)
       took_good points (said_as.Batch skipped last items) t w n = batch_good (length feed.arms - length (arm ∷ arms)) points skipped last items (ap (λ z. length z - length (arm ∷ arms)) all ∙ place_of prior arms arm) t w
       took_good points said_as.Gone t w n = gone_good (others arm feed.arms) points t w
       took_good points (said_as.HistoryFull count) t w n = close_good (closed feed.token b) feed.token feed.arms Settled _
-          (own, inr (inr (inl (record { count = count; took = record { took = record { prior = prior; arm = arm; rest = arms; all = all; took = t }; firsts = w }; is = refl }))))
+          (own, λ c. inr (inr (inl (record { count = count; took = record { took = record { prior = prior; arm = arm; rest = arms; all = all; took = t }; firsts = w }; is = refl }))))
       took_good points other t w n = next_good arms points (n tt) refl
 
     -- ---- where it is visited
-    left_tells : (x : Shown) (xs : List Shown) → feed.left ≡ x ∷ xs → (a : Answer) → a ≡ fitted k (Batch feed.notes (take feed.batch (x ∷ xs)) None) → TellsItems k feed a es
-    left_tells x xs q a e = record {
+    left_tells : (b : Books) (x : Shown) (xs : List Shown) → feed.token ≡ token → feed_of token b.feeds ≡ Some feed → feed.left ≡ x ∷ xs → (a : Answer) (c : Books) → a ≡ fitted k (Batch feed.notes (take feed.batch (x ∷ xs)) None)
+        → (is_long k (Batch feed.notes (take feed.batch (x ∷ xs)) None) ≡ false → c ≡ with_left feed.token (drop feed.batch (x ∷ xs)) b) → TellsItems k feed a es c
+    left_tells b x xs own its q a c e g = record {
       items = take feed.batch (x ∷ xs);
+      rest = drop feed.batch (x ∷ xs);
       points = None;
       is = e;
       some = some_front feed.batch (x ∷ xs) refl;
-      source = inl (λ none. absurd (let z : x ∷ xs ≡ [] = sym q ∙ none in cc), ap (λ z. take feed.batch z) (sym q));
+      source = inl (λ none. absurd (let z : x ∷ xs ≡ [] = sym q ∙ none in cc), ap (λ z. take feed.batch z) (sym q), ap (λ z. drop feed.batch z) (sym q));
+      kept = λ f. keeps_on b own its (drop feed.batch (x ∷ xs)) c (g f);
     }
 
     left_good : (b : Books) (left : List Shown) → es ≡ [] → feed.token ≡ token → feed_of token b.feeds ≡ Some feed → feed.left ≡ left → Good (continue_left k b feed left)
     left_good b [] start own its q = record { same = own; its = its; left = q; prior = []; all = refl; takes = start }
-    left_good b (x ∷ xs) start own its q = tell_good b feed.token _ (with_left feed.token (drop feed.batch (x ∷ xs)) b) feed.arms None (λ z e. (own, inl (left_tells x xs q z e)))
+    left_good b (x ∷ xs) start own its q = tell_good b feed.token _ (with_left feed.token (drop feed.batch (x ∷ xs)) b) feed.arms None own (λ z c e g. inl (left_tells b x xs own its q z c e g))
 
   -- ---- a step
   module _ (token : ℕ) (feed : Open) (es : List Event) (m n : Mach PL) (e : Event) where
@@ -230,9 +252,9 @@ module _ {PL : Type 0} (k : Talk PL) where
       task_still : (task : Task PL) → OnTask token feed es m.books task → Owns token feed now task
       task_still (Planning u plan noreply count found arms) t = absurd t
       task_still (Visiting u arms points) t = t.same
-      task_still (Telling u a kept lose after) t = (t.0, answer_still feed a es e t.1)
+      task_still (Telling u a kept lose after) t = t.0
       task_still (Closing u arms firm None) t = absurd t
-      task_still (Closing u arms firm (Some a)) t = (t.0, answer_still feed a es e t.1)
+      task_still (Closing u arms firm (Some a)) t = (t.0, λ b. answer_still feed a es e b (t.1 b))
 
       no_plan : {A : Type 0} (move : Move) (b : Books) (task : Task PL) → Asks k task move → OnTask token feed es b task → A
       no_plan move b (Planning u plan noreply count found arms) s t = absurd t
@@ -250,7 +272,7 @@ module _ {PL : Type 0} (k : Talk PL) where
       by_arm slot arm s = moves _ s.goes tt
 
       by_want : IsWanting e → (v : ℕ) → v ≡ token → Tells token feed now v Internal
-      by_want w v q = (q, wants_now feed es e w)
+      by_want w v q = (q, λ b. wants_now feed es e b w)
 
   ran_now : (token : ℕ) (feed : Open) (es : List Event) (b : Books) (task : Task PL) (slot place : ℕ) (order : Order) (reply : Told) (saved : Saved) → Runs k b task slot order → OnTask token feed es b task
       → Good token feed (es ++ On slot (Ran place order reply) saved ∷ []) (ran k b task slot order.cmd reply saved)
@@ -271,7 +293,7 @@ module _ {PL : Type 0} (k : Talk PL) where
   ran_now token feed es b (Closing u arms firm None) slot place order reply saved x t = absurd t
   ran_now token feed es b (Closing u [] firm (Some a)) slot place order reply saved x t = absurd x
   ran_now token feed es b (Closing u (arm ∷ arms) firm (Some a)) slot place order reply saved x t =
-      close_good token feed (es ++ On slot (Ran place order reply) saved ∷ []) (closed u b) u arms Settled a (t.0, answer_still feed a es (On slot (Ran place order reply) saved) t.1)
+      close_good token feed (es ++ On slot (Ran place order reply) saved ∷ []) (closed u b) u arms Settled a (t.0, λ c. answer_still feed a es (On slot (Ran place order reply) saved) c (t.1 c))
 
   step_now : (token : ℕ) (feed : Open) (es : List Event) (m n : Mach PL) (e : Event) → Step k m e n → IsWithin e → OnDoing token feed es m.books m.doing → OnDoing token feed (es ++ e ∷ []) n.books n.doing
   step_now token feed es m n Turn s w h = absurd w
@@ -361,8 +383,17 @@ module _ {PL : Type 0} (k : Talk PL) where
   over y None t kept after true q = subst (λ o. IsFree (tells y None t kept o true).doing) (sym q) tt
   over y (Some left) t kept after true q = subst (λ o. IsFree (tells y (Some left) t kept o true).doing) (sym q) tt
 
+  kept_so : (y : Mach PL) (back : Option (List ℕ)) (t : ℕ) (kept : Books) (after : Option (List Arm)) (whole : Bool) → after ≡ None → whole ≡ true → (tells y back t kept after whole).books ≡ kept
+  kept_so y back t kept after false q w = absurd (true≢false (sym w))
+  kept_so y back t kept after true q w = ap (λ o. (tells y back t kept o true).books) q
+
   pub each_continues : EachContinues k
   each_continues m x y z token feed first es t a whole up i its s r within says =
       let h : OnDoing token feed es y.books y.doing = run_now token feed [] es x y r within (starts m x token feed first up i its s) in
-      let g : (t ≡ token) × IsAnswer k feed a es × (says.after ≡ None) = subst (OnDoing token feed es y.books) says.doing h in
-      (g.0, g.1, subst (λ (w : Mach PL). IsFree w.doing) (sym says.goes) (over y says.back t says.kept says.after whole g.2))
+      let g : (t ≡ token) × IsAnswer k feed a es says.kept × (says.after ≡ None) = subst (OnDoing token feed es y.books) says.doing h in (
+        g.0,
+        subst (λ (w : Mach PL). IsFree w.doing) (sym says.goes) (over y says.back t says.kept says.after whole g.2),
+        says.kept,
+        (λ w. ap (λ (x : Mach PL). x.books) says.goes ∙ kept_so y says.back t says.kept says.after whole g.2 w),
+        g.1,
+      )

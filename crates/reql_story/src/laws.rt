@@ -45,9 +45,9 @@ pub fn each_is_answered<F: Planning>()
 {}
 
 /// Each feed that a session has open is that of a START of its own token, which had nothing open then: the plan that its body
-/// asked for came, by what it found, to its end with just the feed's arms and notes, and the feed's batches have that plan's size.
-/// What is left of it is a tail of the plan's first items, or of the changes that a Take of one of its arms gave since. No two
-/// open feeds have a token in common.
+/// asked for came, by what it found and with no frame taken since, to its end with just the feed's arms and notes, and the
+/// feed's batches have that plan's size. What is left of it is a tail of the plan's first items, or of the changes that a Take
+/// of one of its arms gave since. No two open feeds have a token in common.
 pub fn each_is_opened<F: Planning>()
     ensures { (f : F) → EachIsOpened (F.talk f) }
 {}
@@ -65,10 +65,12 @@ pub fn starts_to_wait<F: Planning>()
     ensures for_nothing { (f : F) → NothingWasThere (F.talk f) }
 {}
 
-/// Where a CONTINUE on an open feed is visited, the next answer, with no turn, further visit or frame before it, has its token. It tells of what was left of the feed; or, where nothing was left, of what the first Take gave that found something,
-/// of the feed's arms in their order; and of an item at least where batches have one. Or it is the fault of such an answer that
-/// is too long, of a table of which the first such Take was told that it was dropped, or of a history of which it was told that
-/// it is full; or INTERNAL, where memory was wanted. With it the visit is over.
+/// Where a CONTINUE on an open feed is visited, the next answer, with no turn, further visit or frame before it, has its token.
+/// It tells of what was left of the feed; or, where nothing was left, of what the first Take gave that found something, of the
+/// feed's arms in their order; and of an item at least where batches have one. Or it is the fault of such an answer that is too
+/// long, of a table of which the first such Take was told that it was dropped, or of a history of which it was told that it is
+/// full; or INTERNAL, where memory was wanted. With it the visit is over, and where a batch was sent whole the feed is open
+/// still, with the rest left.
 pub fn each_continues<F: Planning>()
     ensures { (f : F) → EachContinues (F.talk f) }
 {}
