@@ -378,12 +378,12 @@ module _ {PL : Type 0} (k : Talk PL) where
   starts m n token feed (Say u a whole) t i its s = absurd t
   starts m n token feed Want t i its s = absurd t
 
-  over : (y : Mach PL) (back : Option (List ℕ)) (t : ℕ) (kept : Books) (after : Option (List Arm)) (whole : Bool) → after ≡ None → IsFree (tells y back t kept after whole).doing
+  pub over : (y : Mach PL) (back : Option (List ℕ)) (t : ℕ) (kept : Books) (after : Option (List Arm)) (whole : Bool) → after ≡ None → IsFree (tells y back t kept after whole).doing
   over y back t kept after false q = tt
   over y None t kept after true q = subst (λ o. IsFree (tells y None t kept o true).doing) (sym q) tt
   over y (Some left) t kept after true q = subst (λ o. IsFree (tells y (Some left) t kept o true).doing) (sym q) tt
 
-  kept_so : (y : Mach PL) (back : Option (List ℕ)) (t : ℕ) (kept : Books) (after : Option (List Arm)) (whole : Bool) → after ≡ None → whole ≡ true → (tells y back t kept after whole).books ≡ kept
+  pub kept_so : (y : Mach PL) (back : Option (List ℕ)) (t : ℕ) (kept : Books) (after : Option (List Arm)) (whole : Bool) → after ≡ None → whole ≡ true → (tells y back t kept after whole).books ≡ kept
   kept_so y back t kept after false q w = absurd (true≢false (sym w))
   kept_so y back t kept after true q w = ap (λ o. (tells y back t kept o true).books) q
 

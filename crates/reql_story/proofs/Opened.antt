@@ -39,7 +39,7 @@ found_so P token [] f e h = absurd (let z : None ≡ Some f = e in cc)
 found_so P token (g ∷ gs) f e h = split (nat_eq g.token token) (λ b. cond b (Some g) (feed_of token gs) ≡ Some f → P f) (λ _ z. subst P (some_is g f z) h.0) (λ _ z. found_so P token gs f z h.1) e
 
 -- ---- lists of feeds
-abbrev Others : ℕ → List Open → Type 0
+abbrev pub Others : ℕ → List Open → Type 0
 Others token fs = AllByRecursion (λ (f : Open). nat_eq f.token token ≡ false) fs
 
 abbrev lefts : ℕ → List Shown → List Open → List Open
@@ -509,3 +509,8 @@ module _ {PL : Type 0} (k : Talk PL) where
 
   pub its_plan : (es : List Event) (m : Mach PL) → Run k fresh es m → (token : ℕ) (f : Open) → feed_of token m.books.feeds ≡ Some f → IsOpened k f es
   its_plan es m r token f e = found_so (λ (f : Open). IsOpened k f es) token m.books.feeds f e (each_is_opened es m r).0
+
+  -- a plan that is under way has a token of no open feed
+  pub free_of_feeds : (es : List Event) (m : Mach PL) → Run k fresh es m → (back : Option (List ℕ)) (token : ℕ) (plan : PL) (noreply : Bool) (count : ℕ) (found : List Found) (arms : List Arm) → m.doing ≡ Busy back (Planning token plan noreply count found arms)
+      → Others token m.books.feeds
+  free_of_feeds es m r back token plan noreply count found arms d = (subst (λ z. DoingFits k (Its es) (Plan es) (opened_with es) m.books z) d (run_all [] es fresh m refl r ((tt, tt), tt)).1).1

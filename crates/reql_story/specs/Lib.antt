@@ -13,5 +13,6 @@ pub mod Answering
 pub mod Opened
 pub mod Waiting
 pub mod Continuing
+pub mod Beginning
 pub mod Sample
 pub mod Worked

@@ -1,6 +1,7 @@
 // Laws of explained sessions.
 ghost use Rattle.reql_hall.specs.Shares.{IsKept};
 ghost use Rattle.reql_story.specs.Answering.{EachIsAnswered};
+ghost use Rattle.reql_story.specs.Beginning.{EachBegins};
 ghost use Rattle.reql_story.specs.Continuing.{EachContinues};
 ghost use Rattle.reql_story.specs.Explained.{ExplainedBy};
 ghost use Rattle.reql_story.specs.Laws.{InOrder, FramesHandled, WornLate, FirstFailed, ValidCloses, OneMore, Learning, NothingLeft, FeedsHold, SkipsAreSent};
@@ -50,6 +51,13 @@ pub fn each_is_answered<F: Planning>()
 /// of one of its arms gave since. No two open feeds have a token in common.
 pub fn each_is_opened<F: Planning>()
     ensures { (f : F) → EachIsOpened (F.talk f) }
+{}
+
+/// Where a plan comes to its end with a feed, the next answer, with no turn, visit or frame before it, has the plan's token. It
+/// is the first batch of the plan's items, with its notes, and when that was sent whole the feed is open, with all its arms and
+/// the rest left; or the fault of a first batch that is too long; or INTERNAL, where memory was wanted.
+pub fn each_begins<F: Planning>()
+    ensures { (f : F) → EachBegins (F.talk f) }
 {}
 
 /// A CONTINUE comes to wait only where nothing was there for it. It was visited, which it is where it is taken up and where it
