@@ -3,6 +3,7 @@ pub mod Beginning
 pub mod Closings
 pub mod Continuing
 pub mod Counts
+pub mod Endings
 pub mod Feeding
 pub mod Fronts
 pub mod Going

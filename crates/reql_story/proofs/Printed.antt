@@ -101,14 +101,14 @@ module _ (τ : ℕ) where
   abbrev rests : ℕ → List Plain → List Cursor → List Cursor
   rests t rest cs = map (λ c. cond (nat_eq c.token t) (record c { rest = rest }) c) cs
 
-  feed_out : (fs : List Open) → feed_of τ (feeds_without τ fs) ≡ None
+  pub feed_out : (fs : List Open) → feed_of τ (feeds_without τ fs) ≡ None
   feed_out [] = refl
   feed_out (f ∷ fs) = elim (which (nat_eq f.token τ)) [
     | inl t ↦ ap (λ b. feed_of τ (cond (not b) (f ∷ feeds_without τ fs) (feeds_without τ fs))) t ∙ feed_out fs
     | inr t ↦ ap (λ b. feed_of τ (cond (not b) (f ∷ feeds_without τ fs) (feeds_without τ fs))) t ∙ ap (λ b. cond b (Some f) (feed_of τ (feeds_without τ fs))) t ∙ feed_out fs
   ]
 
-  feed_kept : (t : ℕ) (fs : List Open) → nat_eq t τ ≡ false → feed_of τ (feeds_without t fs) ≡ feed_of τ fs
+  pub feed_kept : (t : ℕ) (fs : List Open) → nat_eq t τ ≡ false → feed_of τ (feeds_without t fs) ≡ feed_of τ fs
   feed_kept t [] n = refl
   feed_kept t (f ∷ fs) n = elim (which (nat_eq f.token t)) [
     | inl y ↦ ap (λ b. feed_of τ (cond (not b) (f ∷ feeds_without t fs) (feeds_without t fs))) y ∙ feed_kept t fs n ∙ ap (λ b. cond b (Some f) (feed_of τ fs)) (sym (apart_from f.token t τ y n))
@@ -148,13 +148,13 @@ module _ (τ : ℕ) where
       took_out d None = d
       took_out d (Some z) = z
 
-  feed_left : (left : List Shown) (fs : List Open) (f : Open) → feed_of τ fs ≡ Some f → feed_of τ (lefts τ left fs) ≡ Some (record f { left = left })
+  pub feed_left : (left : List Shown) (fs : List Open) (f : Open) → feed_of τ fs ≡ Some f → feed_of τ (lefts τ left fs) ≡ Some (record f { left = left })
   feed_left left [] f e = absurd (let h : None ≡ Some f = e in cc)
   feed_left left (x ∷ fs) f e = split (nat_eq x.token τ) (λ b. nat_eq x.token τ ≡ b → cond b (Some x) (feed_of τ fs) ≡ Some f → feed_of τ (cond b (record x { left = left }) x ∷ lefts τ left fs) ≡ Some (record f { left = left }))
       (λ _ y h. ap (λ b. cond b (Some (record x { left = left })) (feed_of τ (lefts τ left fs))) y ∙ ap (λ (z : Open). Some (record z { left = left })) (same_some x f h))
       (λ _ y h. ap (λ b. cond b (Some x) (feed_of τ (lefts τ left fs))) y ∙ feed_left left fs f h) refl e
 
-  feed_left_apart : (t : ℕ) (left : List Shown) (fs : List Open) → nat_eq t τ ≡ false → feed_of τ (lefts t left fs) ≡ feed_of τ fs
+  pub feed_left_apart : (t : ℕ) (left : List Shown) (fs : List Open) → nat_eq t τ ≡ false → feed_of τ (lefts t left fs) ≡ feed_of τ fs
   feed_left_apart t left [] n = refl
   feed_left_apart t left (f ∷ fs) n = elim (which (nat_eq f.token t)) [
     | inl y ↦ (let z = apart_from f.token t τ y n in
@@ -162,7 +162,7 @@ module _ (τ : ℕ) where
     | inr y ↦ ap (λ b. feed_of τ (cond b (record f { left = left }) f ∷ lefts t left fs)) y ∙ ap (λ z. cond (nat_eq f.token τ) (Some f) z) (feed_left_apart t left fs n)
   ]
 
-  feed_more : (g : Open) (fs : List Open) → nat_eq g.token τ ≡ false → feed_of τ (fs ++ g ∷ []) ≡ feed_of τ fs
+  pub feed_more : (g : Open) (fs : List Open) → nat_eq g.token τ ≡ false → feed_of τ (fs ++ g ∷ []) ≡ feed_of τ fs
   feed_more g [] n = ap (λ b. cond b (Some g) None) n
   feed_more g (f ∷ fs) n = ap (λ z. cond (nat_eq f.token τ) (Some f) z) (feed_more g fs n)
 
@@ -990,6 +990,13 @@ module _ {PL : Type 0} (k : Talk PL) (on : PL → Bool → ℕ → List Found �
     | inl d ↦ told_open k on τ d.arms d.notes well d.apart m.books t.back ns xs s t.kept t.lose t.after None (at_doing k on τ d.arms d.notes well d.apart m _ None t.doing d.fits)
     | inr l ↦ told_open k on τ l.told.arms l.told.notes well l.told.apart m.books t.back ns xs s t.kept t.lose t.after (Some l.p) (at_doing k on τ l.told.arms l.told.notes well l.told.apart m _ (Some l.p) t.doing l.fits)
   ])
+
+  -- a token with an open feed has no cursor
+  pub alone : (es : List Event) (m : Mach PL) → Run k fresh es m → (left : List ℕ) → m.doing ≡ Visits left → is_some (feed_of τ m.books.feeds) ≡ true → is_some (cursor_of τ m.books.cursors) ≡ false
+  alone es m r left e h = elim (kept es m r).state [
+    | inl d ↦ (let i : feed_of τ m.books.feeds ≡ None = at_doing k on τ d.arms d.notes well d.apart m (Visits left) None e d.fits in absurd (true≢false (sym h ∙ ap (λ z. is_some z) i)))
+    | inr l ↦ (at_doing k on τ l.told.arms l.told.notes well l.told.apart m (Visits left) (Some l.p) e l.fits).0
+  ]
 
   -- ---- a Take
   course_of : (es : List Event) (m : Mach PL) → Run k fresh es m → (back : Option (List ℕ)) (t : ℕ) (plan : PL) (noreply : Bool) (count : ℕ) (found : List Found) (arms : List Arm) → m.doing ≡ Busy back (Planning t plan noreply count found arms) → on plan noreply count found arms

@@ -9,6 +9,7 @@ pub mod Worlds
 pub mod Laws
 pub mod Owed
 pub mod Printed
+pub mod Endings
 pub mod Answering
 pub mod Opened
 pub mod Waiting

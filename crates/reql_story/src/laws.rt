@@ -3,6 +3,7 @@ ghost use Rattle.reql_hall.specs.Shares.{IsKept};
 ghost use Rattle.reql_story.specs.Answering.{EachIsAnswered};
 ghost use Rattle.reql_story.specs.Beginning.{EachBegins};
 ghost use Rattle.reql_story.specs.Continuing.{EachContinues};
+ghost use Rattle.reql_story.specs.Endings.{FeedsEnd};
 ghost use Rattle.reql_story.specs.Explained.{ExplainedBy};
 ghost use Rattle.reql_story.specs.Laws.{InOrder, FramesHandled, WornLate, FirstFailed, ValidCloses, OneMore, Learning, NothingLeft, FeedsHold, SkipsAreSent};
 ghost use Rattle.reql_story.specs.Opened.{EachIsOpened};
@@ -133,4 +134,10 @@ pub fn feeds_are_told<F: Planning>()
     ensures of_feeds { (f : F) → BatchesAreOfFeeds (F.talk f) }
     ensures takes { (f : F) → TakesAreOfFeeds (F.talk f) }
     ensures all { (f : F) → AllIsSaid (F.talk f) }
+{}
+
+/// While a session goes on, the open feed of a token is closed only where its client is told so: by a fault, or by the answer to a
+/// STOP that was the last frame.
+pub fn feeds_end<F: Planning>()
+    ensures { (f : F) → FeedsEnd (F.talk f) }
 {}
