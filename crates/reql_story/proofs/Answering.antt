@@ -1,7 +1,7 @@
 -- Each frame is answered: a balance of answers wanted, owed and said, for one token.
 use Rattle.std.proofs.Common.{◌≡◌, ◌⊎◌, ◌≤◌, ◌+◌, inl, inr, ℕ, Bool, true, false, true≢false, cond, not, ◌||◌, List, [], ◌∷◌, ◌++◌, map, filter, drop, length, Option, Some, None, refl, sym, ap, subst, ◌∙◌, arith}
 use Rattle.std.specs.Prelude.{nat_eq, nat_le, is_some}
-use Rattle.std.proofs.lemmas.Bool.{eqb-true}
+use Rattle.std.proofs.lemmas.Bool.{eqb-true, eq-eqb}
 use Rattle.reql_table_machine.proofs.Tracking.{split}
 use Rattle.reql_table_machine.specs.declared.command.Said.{Said}
 use Rattle.reql_table_machine.specs.declared.command.Said.TheVariants as said_as
@@ -586,3 +586,19 @@ module _ (t : ℕ) where
 module _ {PL : Type 0} (k : Talk PL) (on : PL → Bool → ℕ → List Found → List Arm → Type 0) (minds : PlansMind k on) where
   pub each_is_answered : EachIsAnswered k
   each_is_answered es m r token = answered token k minds.quiet minds.loud es m r
+
+  -- whose CONTINUE is asking, or whose plan is going on, doesn't wait
+  alone_at : (t : ℕ) (es : List Event) (m : Mach PL) → Run k fresh es m → (back : Option (List ℕ)) (task : Task PL) → m.doing ≡ Busy back task → (Fits t m.books (due_back t back) task → 1 + w t m.books ≤ 1) → has_token t m.books.waiting ≡ false
+  alone_at t es m r back task d f =
+      let h = (fair_run t k minds.quiet minds.loud fresh m es r (omega arith)).holds in
+      let g : Holds t k minds.quiet minds.loud m.books (Busy back task) = subst (λ z. Holds t k minds.quiet minds.loud m.books z) d h in
+      elim (which (has_token t m.books.waiting)) [
+        | inl x ↦ absurd (omega (arith, f g.1, times_has t t m.books.waiting (eq-eqb t t refl) x))
+        | inr x ↦ x
+      ]
+
+  pub asks_alone : (t : ℕ) (es : List Event) (m : Mach PL) → Run k fresh es m → (back : Option (List ℕ)) (arms : List Arm) (points : List Point) → m.doing ≡ Busy back (Visiting t arms points) → has_token t m.books.waiting ≡ false
+  asks_alone t es m r back arms points d = alone_at t es m r back (Visiting t arms points) d (λ g. omega (arith, g, room_le t m.books, is_one t t (eq-eqb t t refl)))
+
+  pub plans_alone : (t : ℕ) (es : List Event) (m : Mach PL) → Run k fresh es m → (back : Option (List ℕ)) (plan : PL) (noreply : Bool) (count : ℕ) (found : List Found) (arms : List Arm) → m.doing ≡ Busy back (Planning t plan noreply count found arms) → has_token t m.books.waiting ≡ false
+  plans_alone t es m r back plan noreply count found arms d = alone_at t es m r back (Planning t plan noreply count found arms) d (λ g. omega (arith, g, is_one t t (eq-eqb t t refl)))

@@ -1,22 +1,25 @@
 -- What was not sent of what a feed's Takes gave is what is kept.
-use Rattle.std.proofs.Common.{◌≡◌, ◌⊎◌, inl, inr, ℕ, Bool, true, false, true≢false, cond, List, [], ◌∷◌, ◌++◌, Some, sym, ap, subst, ◌∙◌, append_assoc, append-nil}
+use Rattle.std.proofs.Common.{◌≡◌, ◌⊎◌, inl, inr, ℕ, Bool, true, false, true≢false, cond, ◌||◌, List, [], ◌∷◌, ◌++◌, Some, refl, sym, ap, subst, ◌∙◌, append_assoc, append-nil}
 use Rattle.std.specs.List.{AllByRecursion}
+use Rattle.std.specs.Prelude.{is_some}
 use Rattle.reql_datum.specs.Plain.{Plain}
 use Rattle.reql_shared.specs.Acts.{Ran}
 use Rattle.reql_table_machine.specs.Fed.{takings}
 use Rattle.reql_table_machine.proofs.Items.{all_left}
 use Rattle.reql_story.specs.Requests.{Arm, Found}
-use Rattle.reql_story.specs.Books.{Open, Books, feed_of}
+use Rattle.reql_story.specs.Books.{Open, Books, has_token, feed_of}
 use Rattle.reql_story.specs.Tasks.{Talk, Task, Planning, Visiting, Telling, Closing}
 use Rattle.reql_story.specs.Minding.{PlansMind}
 use Rattle.reql_story.specs.Session.{Event, On, Doing, Rest, Visits, Busy, Leaving, Mach, fresh, Run}
 use Rattle.reql_story.specs.Explained.{DeskShare, DeskSeen, Life, told_in, told_by, all_told, all_taken}
 use Rattle.reql_story.specs.Laws.{Opens}
-use Rattle.reql_story.specs.Owed.{task_keeps, keeps, task_tells, telling, IsHere, NothingKeptBack}
+use Rattle.reql_story.specs.Owed.{task_keeps, keeps, task_tells, telling, IsHere, IsAtRest, NothingKeptBack, AllIsSent}
+use Rattle.reql_story.specs.Printed.{left_of, saying, IsOpenAt}
 use Rattle.reql_story.proofs.Shelves.{has, of, which_feed}
 use Rattle.reql_story.proofs.Tellings.{F, OkTask, planning_fine, visiting_fine}
 use Rattle.reql_story.proofs.Fronts.{OkDoing, OkM, NotOpens, known_on, new_in, step_ok, dead, takings_step, opens, parts}
 use Rattle.reql_story.proofs.Feeding.{no_others}
+use Rattle.reql_story.proofs.Printed.{all_is_said}
 
 module _ {PL : Type 0} (k : Talk PL) (on : PL → Bool → ℕ → List Found → List Arm → Type 0) (σ φ : ℕ) where
   -- a feed that has the arm is the one of which this is left
@@ -77,6 +80,28 @@ module _ {PL : Type 0} (k : Talk PL) (on : PL → Bool → ℕ → List Found �
           | inr x ↦ absurd (true≢false (sym (doing_left false m.books m.doing [] f here its has_it x).0))
         ]
 
+    -- where its token waits
+    sent_all : (seen : DeskSeen) (share : DeskShare) (life : Life) (stamp : ℕ) (after : List Event) (o : Opens k seen share life σ φ stamp after) (es more : List Event) (m : Mach PL) → after ≡ es ++ more
+        → Run k fresh (o.before ++ On σ (Ran o.place o.order o.reply) o.kept ∷ es) m → (f : Open) → (d : Doing PL) → m.doing ≡ d → IsHere d → keeps m.books d ≡ m.books → telling σ φ d ≡ [] → saying f.token d ≡ []
+        → feed_of f.token m.books.feeds ≡ Some f → has σ φ f.arms ≡ true → has_token f.token m.books.waiting ≡ true → all_told σ φ true es ≡ all_taken true (takings φ (known_on σ es))
+    sent_all seen share life stamp after o es more m e run f d at here same none quiet its has_it waits =
+        let stands : IsHere m.doing = subst IsHere (sym at) here in
+        let kept : keeps m.books m.doing ≡ m.books = ap (keeps m.books) at ∙ same in
+        let found : feed_of f.token (keeps m.books m.doing).feeds ≡ Some f = ap (λ (z : Books). feed_of f.token z.feeds) kept ∙ its in
+        let open_at : IsOpenAt f.token m = (stands, ap (λ z. is_some z || is_some (feed_of f.token (keeps m.books m.doing).feeds)) its) in
+        let due_is : saying f.token m.doing ++ left_of (feed_of f.token (keeps m.books m.doing).feeds) ≡ [] = all_is_said k on well (o.before ++ On σ (Ran o.place o.order o.reply) o.kept ∷ es) m run f.token waits open_at in
+        let left : f.left ≡ [] = (λ i. (sym quiet ∙ ap (saying f.token) (sym at)) i ++ left_of (sym found i)) ∙ due_is in
+        sym (append-nil (all_told σ φ true es)) ∙ (λ i. all_told σ φ true es ++ ((sym none ∙ ap (telling σ φ) (sym at)) i ++ of σ φ true (sym left i))) ∙ keeps_all seen share life stamp after o es more m e run f stands found has_it
+
 module _ {PL : Type 0} (k : Talk PL) (on : PL → Bool → ℕ → List Found → List Arm → Type 0) (well : PlansMind k on) where
   pub nothing_kept_back : NothingKeptBack k
   nothing_kept_back seen share life none slot feed stamp after o es more m e run f here its has_it = keeps_all k on slot feed well seen share life stamp after o es more m e run f here its has_it
+
+  pub all_is_sent : AllIsSent k
+  all_is_sent seen share life none slot feed stamp after o es more m e run f rest its has_it waits = by_doing m.doing refl rest
+    where
+      by_doing : (d : Doing PL) → m.doing ≡ d → IsAtRest d → all_told slot feed true es ≡ all_taken true (takings feed (known_on slot es))
+      by_doing Rest at r = sent_all k on slot feed well seen share life stamp after o es more m e run f Rest at tt refl refl refl its has_it waits
+      by_doing (Visits left) at r = sent_all k on slot feed well seen share life stamp after o es more m e run f (Visits left) at tt refl refl refl its has_it waits
+      by_doing (Busy back task) at r = absurd r
+      by_doing (Leaving arms end) at r = absurd r

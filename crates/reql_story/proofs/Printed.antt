@@ -1,5 +1,5 @@
 -- All that is said of a feed, kept along a run.
-use Rattle.std.proofs.Common.{◌≡◌, ◌⊎◌, ◌+◌, ◌-◌, inl, inr, ℕ, suc, Bool, true, false, true≢false, cond, not, ◌&&◌, ◌||◌, filter, map, List, [], ◌∷◌, ◌++◌, take, drop, length, Option, Some, None, refl, sym, ap, subst, ◌∙◌, arith, append_assoc, append-nil, length-append}
+use Rattle.std.proofs.Common.{◌≡◌, ◌⊎◌, ◌+◌, ◌-◌, ◌≤◌, inl, inr, ℕ, zero, suc, Bool, true, false, true≢false, cond, not, ◌&&◌, ◌||◌, filter, map, List, [], ◌∷◌, ◌++◌, take, drop, length, Option, Some, None, refl, sym, ap, subst, ◌∙◌, arith, append_assoc, append-nil, length-append}
 use Rattle.std.specs.List.{AllByRecursion}
 use Rattle.std.specs.Prelude.{nat_eq, nat_le, is_some}
 use Rattle.std.proofs.lemmas.Bool.{eqb-true, eq-eqb}
@@ -26,9 +26,16 @@ use Rattle.reql_story.specs.Tasks.{Talk, Firm, Stops, Drops, Settled, Task, Plan
 use Rattle.reql_story.specs.Bodies.{full}
 use Rattle.reql_story.specs.Minding.{has_arm, are_apart, Minds, IsOther, PlansMind}
 use Rattle.reql_story.specs.Session.{Event, Turn, Visit, Greeted, Begin, Heard, Lost, Quiet, Finish, Broken, Long, Wear, Poor, On, OnNames, Dice, Clock, Come, Say, Want, Doing, Rest, Visits, Busy, Leaving, Mach, fresh, Step, Run, doing_next, goes_on, PlanEnds}
+<<<<<<< HEAD
 use Rattle.reql_story.specs.Waiting.{IsNothing, IsBare, FoundNothing, IsVisited}
+=======
+use Rattle.reql_story.specs.Waiting.{IsNothing, IsBare, FoundNothing, IsTakenUp, EndsInVain}
+>>>>>>> 7dd5166 (Wherever a token waits, everything of its feed was said; and behind a batch nothing is left, or it has as many items as it may have)
 use Rattle.reql_story.specs.Owed.{keeps, IsHere}
-use Rattle.reql_story.specs.Printed.{items_in, said_by, all_said, AreNotes, HasNotes, printed, printed_from, given_by, left_of, task_asks, is_asking, taken_at, saying, due, IsOpenAt, StaysOpen, all_given, IsTold, FeedsAreTold, BatchesAreOfFeeds, TakesAreOfFeeds, AllIsSaid}
+use Rattle.reql_story.specs.Printed.{items_in, said_by, all_said, AreNotes, HasNotes, printed, printed_from, given_by, left_of, task_asks, is_asking, taken_at, saying, due, IsOpenAt, StaysOpen, all_given, IsTold, FeedsAreTold, BatchesAreOfFeeds, BatchesAreFull, TakesAreOfFeeds, AllIsSaid}
+use Rattle.reql_story.proofs.Batched.{batches}
+use Rattle.reql_story.proofs.Answering.{asks_alone, plans_alone}
+use Rattle.reql_story.proofs.Waiting.{starts_to_wait}
 use Rattle.reql_story.proofs.Shelves.{which, or_false, found_token}
 
 either : {A : Type 0} (P : A → Type 0) (x : Bool) (y z : A) → (x ≡ true → P y) → (x ≡ false → P z) → P (cond x y z)
@@ -49,6 +56,12 @@ later false b h = h
 empty_of : (xs : List Shown) → is_empty xs ≡ true → xs ≡ []
 empty_of [] e = refl
 empty_of (x ∷ xs) e = absurd (true≢false (sym e))
+
+-- nothing is left behind so many items, or so many there are
+cut_full : (n : ℕ) (xs : List Shown) → (drop n xs ≡ []) ⊎ (n ≤ length (take n xs))
+cut_full zero xs = inr (omega arith)
+cut_full (suc n) [] = inl refl
+cut_full (suc n) (x ∷ xs) = elim (cut_full n xs) [ inl h ↦ inl h | inr h ↦ inr (omega (arith, h)) ]
 
 -- another token than one that is the same as a third
 apart_from : (x t τ : ℕ) → nat_eq x t ≡ true → nat_eq t τ ≡ false → nat_eq x τ ≡ false
@@ -203,6 +216,11 @@ module _ {PL : Type 0} (k : Talk PL) (on : PL → Bool → ℕ → List Found �
   FitsAnswer None a = NoBatch a
   FitsAnswer (Some r) a = AreNotes N a
 
+  -- nothing is left behind a batch, or it is full
+  abbrev IsFull : Books → Answer → Type 0
+  IsFull kept (Batch ns xs s) = (f : Open) → feed_of τ kept.feeds ≡ Some f → (f.left ≡ []) ⊎ (f.batch ≤ length xs)
+  IsFull kept other = Unit {0}
+
   abbrev Back : Books → ℕ → Option (List Arm) → V → Type 0
   Back b t None v = In b v
   Back b t (Some arms) v = nat_eq t τ ≡ false → In b v
@@ -214,6 +232,7 @@ module _ {PL : Type 0} (k : Talk PL) (on : PL → Bool → ℕ → List Found �
     none : v ≡ None → rest ≡ None
     gone : rest ≡ None → In b v
     noted : nat_eq t τ ≡ true → FitsAnswer rest a
+    full : nat_eq t τ ≡ true → IsFull kept a
     back : Back b t lose v
 
   abbrev AsksOn : V → List Arm → Type 0
@@ -265,6 +284,10 @@ module _ {PL : Type 0} (k : Talk PL) (on : PL → Bool → ℕ → List Found �
   fits_other (Some r) (Batch ns xs s) h = absurd h
   fits_other (Some r) a h = tt
 
+  full_other : (kept : Books) (a : Answer) → NoBatch a → IsFull kept a
+  full_other kept (Batch ns xs s) h = absurd h
+  full_other kept a h = tt
+
   back_of : (b : Books) (t : ℕ) (lose : Option (List Arm)) (v : V) → In b v → Back b t lose v
   back_of b t None v i = i
   back_of b t (Some arms) v i = λ _. i
@@ -278,6 +301,7 @@ module _ {PL : Type 0} (k : Talk PL) (on : PL → Bool → ℕ → List Found �
     none = λ e. e;
     gone = λ _. i;
     noted = λ _. fits_other v a h;
+    full = λ _. full_other kept a h;
     back = back_of b t lose v i;
   }
 
@@ -290,6 +314,7 @@ module _ {PL : Type 0} (k : Talk PL) (on : PL → Bool → ℕ → List Found �
     none = λ e. e;
     gone = λ _. i;
     noted = λ y. absurd (true≢false (sym y ∙ n));
+    full = λ y. absurd (true≢false (sym y ∙ n));
     back = back_of b t lose v i;
   }
 
@@ -402,14 +427,17 @@ module _ {PL : Type 0} (k : Talk PL) (on : PL → Bool → ℕ → List Found �
   own_left t left b f p y o = (o.cursor, record f { left = left }, ap (λ z. feed_of τ (lefts τ z left b.feeds)) (eqb-true t τ y) ∙ feed_left τ left b.feeds f o.found, o.arms, o.notes, refl)
 
   -- a batch of the feed, of which these are still to be said
-  tell_own : (b : Books) (t : ℕ) (f : Open) (xs left p q : List Shown) (s : Option Stamped) (lose : Option (List Arm)) → nat_eq t τ ≡ true → Own b f q → xs ++ left ≡ p → Back b t lose (Some p) → FitTelling b t (Batch f.notes xs s) (with_left t left b) lose (Some p)
-  tell_own b t f xs left p q s lose y o j back = record {
+  tell_own : (b : Books) (t : ℕ) (f : Open) (xs left p q : List Shown) (s : Option Stamped) (lose : Option (List Arm)) → nat_eq t τ ≡ true → Own b f q → xs ++ left ≡ p → (left ≡ []) ⊎ (f.batch ≤ length xs) → Back b t lose (Some p) → FitTelling b t (Batch f.notes xs s) (with_left t left b) lose (Some p)
+  tell_own b t f xs left p q s lose y o j fill back = record {
     rest = Some left;
     here = own_left t left b f q y o;
     joins = ap (λ x. cond x xs [] ++ left) y ∙ j;
     none = λ e. no_none p e;
     gone = λ e. no_none left e;
     noted = λ _. o.notes;
+    full = λ _ g e.
+        let g_is : record f { left = left } ≡ g = same_some (record f { left = left }) g (sym (feed_left τ left b.feeds f o.found) ∙ ap (λ z. feed_of τ (lefts τ z left b.feeds)) (sym (eqb-true t τ y)) ∙ e) in
+        subst (λ (z : Open). (z.left ≡ []) ⊎ (z.batch ≤ length xs)) g_is fill;
     back = back;
   }
 
@@ -433,7 +461,7 @@ module _ {PL : Type 0} (k : Talk PL) (on : PL → Bool → ℕ → List Found �
         let j : take f.batch (x ∷ xs) ++ drop f.batch (x ∷ xs) ≡ w.0 = take-append-drop f.batch (x ∷ xs) ∙ sym l ∙ w.2.left in
         tell_good b f.token (Batch f.notes (take f.batch (x ∷ xs)) None) (with_left f.token (drop f.batch (x ∷ xs)) b) f.arms None v (λ _. i)
         (subst (λ z. FitTelling b f.token (Batch f.notes (take f.batch (x ∷ xs)) None) (with_left f.token (drop f.batch (x ∷ xs)) b) None z) (sym w.1)
-        (tell_own b f.token f (take f.batch (x ∷ xs)) (drop f.batch (x ∷ xs)) w.0 w.0 None None y w.2 j (own_in b f w.0 w.2))))
+        (tell_own b f.token f (take f.batch (x ∷ xs)) (drop f.batch (x ∷ xs)) w.0 w.0 None None y w.2 j (cut_full f.batch (x ∷ xs)) (own_in b f w.0 w.2))))
     | inr y ↦ tell_good b f.token (Batch f.notes (take f.batch (x ∷ xs)) None) (with_left f.token (drop f.batch (x ∷ xs)) b) f.arms None v (λ _. i)
         (tell_apart b f.token (Batch f.notes (take f.batch (x ∷ xs)) None) (with_left f.token (drop f.batch (x ∷ xs)) b) None v y i (left_in f.token (drop f.batch (x ∷ xs)) b v y i))
   ]
@@ -488,6 +516,7 @@ module _ {PL : Type 0} (k : Talk PL) (on : PL → Bool → ℕ → List Found �
           none = λ _. refl;
           gone = λ _. i;
           noted = λ _. quiet;
+          full = λ _. full_other (closed f.token b) (fitted k fault) quiet;
           back = i;
         }
         | inr y ↦ tell_other b f.token (fitted k fault) (closed f.token b) None v quiet i (apart_in f.token b v y i)
@@ -511,10 +540,12 @@ module _ {PL : Type 0} (k : Talk PL) (on : PL → Bool → ℕ → List Found �
       let front : List Shown = skipped_item n arm skipped last ++ take f.batch (change_items n arm items) in
       let back : List Shown = drop f.batch (change_items n arm items) in
       let j : front ++ back ≡ new = append_assoc (skipped_item n arm skipped last) (take f.batch (change_items n arm items)) back ∙ ap (λ z. skipped_item n arm skipped last ++ z) (take-append-drop f.batch (change_items n arm items)) in
+      let fill : (back ≡ []) ⊎ (f.batch ≤ length front) =
+      elim (cut_full f.batch (change_items n arm items)) [ inl h ↦ inl h | inr h ↦ inr (omega (arith, h, length-append (skipped_item n arm skipped last) (take f.batch (change_items n arm items)))) ] in
       either (λ x. Out x (Some []) new) (is_empty new) (done (waits f.token b)) (tell k b f.token (Batch f.notes front (Some (stamped b.names points))) (with_left f.token back b) f.arms (Some f.arms))
       (λ e. record { now = Some []; fits = own_in b f [] o; goes = inr ([], refl, ap (λ z. Some z) (sym (empty_of new e))) })
       (λ _. elim (tell_good b f.token (Batch f.notes front (Some (stamped b.names points))) (with_left f.token back b) f.arms (Some f.arms) (Some new) (λ n. absurd (true≢false (sym y ∙ n)))
-      (tell_own b f.token f front back new [] (Some (stamped b.names points)) (Some f.arms) y o j (λ n. absurd (true≢false (sym y ∙ n))))) [
+      (tell_own b f.token f front back new [] (Some (stamped b.names points)) (Some f.arms) y o j fill (λ n. absurd (true≢false (sym y ∙ n))))) [
         | inl h ↦ record { now = Some new; fits = h; goes = inr ([], refl, refl) }
         | inr h ↦ record { now = None; fits = h; goes = inl refl }
       ])
@@ -616,6 +647,7 @@ module _ {PL : Type 0} (k : Talk PL) (on : PL → Bool → ℕ → List Found �
           none = λ e. no_none items e;
           gone = λ e. no_none (drop batch items) e;
           noted = λ _. refl;
+          full = λ _ h e. subst (λ (z : Open). (z.left ≡ []) ⊎ (z.batch ≤ length (take batch items))) (same_some g h (sym (feed_new τ g b.feeds y none) ∙ e)) (cut_full batch items);
           back = λ n. absurd (true≢false (sym y ∙ n));
         })
 
@@ -998,6 +1030,14 @@ module _ {PL : Type 0} (k : Talk PL) (on : PL → Bool → ℕ → List Found �
     | inr l ↦ (at_doing k on τ l.told.arms l.told.notes well l.told.apart m (Visits left) (Some l.p) e l.fits).0
   ]
 
+  -- a batch is full
+  is_full : (es : List Event) (m : Mach PL) → Run k fresh es m → (back : Option (List ℕ)) (ns : List ℕ) (xs : List Shown) (s : Option Stamped) (kept2 : Books) (lose after : Option (List Arm)) → m.doing ≡ Busy back (Telling τ (Batch ns xs s) kept2 lose after)
+      → (f : Open) → feed_of τ kept2.feeds ≡ Some f → (f.left ≡ []) ⊎ (f.batch ≤ length xs)
+  is_full es m r back ns xs s kept2 lose after d f e = elim (kept es m r).state [
+    | inl x ↦ (at_doing k on τ x.arms x.notes well x.apart m (Busy back (Telling τ (Batch ns xs s) kept2 lose after)) None d x.fits).full (eq-eqb τ τ refl) f e
+    | inr x ↦ (at_doing k on τ x.told.arms x.told.notes well x.told.apart m (Busy back (Telling τ (Batch ns xs s) kept2 lose after)) (Some x.p) d x.fits).full (eq-eqb τ τ refl) f e
+  ]
+
   -- ---- a Take
   course_of : (es : List Event) (m : Mach PL) → Run k fresh es m → (back : Option (List ℕ)) (t : ℕ) (plan : PL) (noreply : Bool) (count : ℕ) (found : List Found) (arms : List Arm) → m.doing ≡ Busy back (Planning t plan noreply count found arms) → on plan noreply count found arms
   course_of es m r back t plan noreply count found arms e = elim (kept es m r).state [
@@ -1087,14 +1127,83 @@ module _ {PL : Type 0} (k : Talk PL) (on : PL → Bool → ℕ → List Found �
       ]
 
 module _ {PL : Type 0} (k : Talk PL) (on : PL → Bool → ℕ → List Found → List Arm → Type 0) (well : PlansMind k on) where
+<<<<<<< HEAD
   pub all_is_said : AllIsSaid k
   all_is_said es m token e o =
       let a = e.vain in
+=======
+  -- where it comes to wait
+  said_at_wait : (es : List Event) (m : Mach PL) (token : ℕ) → EndsInVain k token es m → IsOpenAt token m → due token m ≡ []
+  said_at_wait es m token e o =
+      let a = e.asks in
+>>>>>>> 7dd5166 (Wherever a token waits, everything of its feed was said; and behind a batch nothing is left, or it has as many items as it may have)
       let run : Run k e.start (a.first ∷ a.takes) m = subst (λ z. Run k e.start z m) a.events a.run in
       elim (kept k on well token e.before e.start e.led).state [
         | inl d ↦ nothing_due k on well token d.arms d.notes d.apart m e.start a.first a.takes a.feed None d.fits a.begins run a.its a.left a.found o
         | inr l ↦ nothing_due k on well token l.told.arms l.told.notes l.told.apart m e.start a.first a.takes a.feed (Some l.p) l.fits a.begins run a.its a.left a.found o
       ]
+
+  no_items : (u v : List Shown) → u ++ v ≡ [] → v ≡ []
+  no_items [] v h = h
+  no_items (x ∷ u) v h = absurd (let z : x ∷ (u ++ v) ≡ [] = h in cc)
+
+  -- a feed whose token waits is given nothing
+  none_given : (token : ℕ) (arms : List Arm) (es : List Event) (m n : Mach PL) (e : Event) → Run k fresh es m → Step k m e n → has_token token m.books.waiting ≡ true → taken_at token arms m.doing e ≡ []
+  none_given token arms es m n (On slot (Ran place order reply) saved) r (inl s) h = by_task s.task s.doing
+    where
+      given : Bool → List Shown
+      given b = cond b (given_by arms slot order.cmd reply.said) []
+
+      not_this : (t : ℕ) (rest : List Arm) (points : List Point) → m.doing ≡ Busy s.back (Visiting t rest points) → given (nat_eq t token) ≡ []
+      not_this t rest points d = elim (which (nat_eq t token)) [
+        | inl y ↦ absurd (true≢false (sym h ∙ asks_alone k on well token es m r s.back rest points (d ∙ ap (λ z. Busy s.back (Visiting z rest points)) (eqb-true t token y))))
+        | inr n ↦ ap given n
+      ]
+
+      by_task : (task : Task PL) → m.doing ≡ Busy s.back task → taken_at token arms m.doing (On slot (Ran place order reply) saved) ≡ []
+      by_task (Visiting t rest points) d = ap (λ z. taken_at token arms z (On slot (Ran place order reply) saved)) d ∙ not_this t rest points d
+      by_task (Planning t plan noreply count found opened) d = ap (λ z. taken_at token arms z (On slot (Ran place order reply) saved)) d
+      by_task (Telling t a kept lose after) d = ap (λ z. taken_at token arms z (On slot (Ran place order reply) saved)) d
+      by_task (Closing t rest firm a) d = ap (λ z. taken_at token arms z (On slot (Ran place order reply) saved)) d
+  none_given token arms es m n (On slot (Ran place order reply) saved) r (inr s) h = ap (λ z. taken_at token arms z (On slot (Ran place order reply) saved)) s.2.doing
+  none_given token arms es m n other r s h = refl
+
+  abbrev SaidAll : (token : ℕ) → Mach PL → Type 0
+  SaidAll token m = has_token token m.books.waiting ≡ true → IsOpenAt token m → due token m ≡ []
+
+  said_more : (token : ℕ) (es : List Event) (m n : Mach PL) (e : Event) → Run k fresh es m → Step k m e n → SaidAll token m → SaidAll token n
+  said_more token es m n e r s was h o = elim (which (has_token token m.books.waiting)) [
+    | inr b ↦ said_at_wait (es ++ e ∷ []) n token (starts_to_wait k es m n e r s token b h) o
+    | inl b ↦ elim (kept k on well token es m r).state [
+      | inl d ↦ elim (step_fits k on token d.arms d.notes well d.apart m n e None d.fits s) [
+        | inl g ↦ elim g.goes [
+          | inl z ↦ absurd (not_open k on token d.arms d.notes well d.apart n.books n.doing (subst (λ w. FitM k on token d.arms d.notes well d.apart n w) z g.fits) o)
+          | inr z ↦ absurd (let w : None ≡ Some z.0 = z.2 in cc)
+        ]
+        | inr g ↦ (let c = g.2.comes in
+            absurd (true≢false (sym b ∙ plans_alone k on well token es m r c.back c.plan c.noreply c.count c.found c.arms (c.doing ∙ ap (λ z. Busy c.back (Planning z c.plan c.noreply c.count c.found c.arms)) (eqb-true c.token token g.2.own)))))
+      ]
+      | inr l ↦ (let t = l.told in
+          let at = open_by k on token t.arms t.notes well t.apart m.books m.doing l.p l.fits in
+          let none : l.p ≡ [] = sym at.1 ∙ was b at.0 in
+          elim (step_fits k on token t.arms t.notes well t.apart m n e (Some l.p) l.fits s) [
+            | inl g ↦ elim g.goes [
+              | inl z ↦ absurd (not_open k on token t.arms t.notes well t.apart n.books n.doing (subst (λ w. FitM k on token t.arms t.notes well t.apart n w) z g.fits) o)
+              | inr z ↦ (let p : z.0 ≡ [] = ap (λ w. list_of k on token t.arms t.notes w) (sym z.2) ∙ none in
+                  let q : z.1 ≡ [] = no_items (said_by token e) z.1 (z.4 ∙ (λ i. p i ++ none_given token t.arms es m n e r s b i)) in
+                  (open_by k on token t.arms t.notes well t.apart n.books n.doing z.1 (subst (λ w. FitM k on token t.arms t.notes well t.apart n w) z.3 g.fits)).1 ∙ q)
+            ]
+            | inr g ↦ absurd (let w : Some l.p ≡ None = g.1 in cc)
+          ])
+    ]
+  ]
+
+  said_run : (token : ℕ) (es more : List Event) (m n : Mach PL) → Run k fresh es m → Run k m more n → SaidAll token m → SaidAll token n
+  said_run token es [] m n r t h = subst (SaidAll token) (sym t) h
+  said_run token es (e ∷ more) m n r t h = said_run token (es ++ e ∷ []) more t.0 n (run_more k on well token fresh m t.0 es e r t.1) t.2 (said_more token es m t.0 e r t.1 h)
+
+  pub all_is_said : AllIsSaid k
+  all_is_said es m r token h o = said_run token [] es fresh m refl r (λ w z. absurd (true≢false (sym w))) h o
 
   pub takes_are_of_feeds : TakesAreOfFeeds k
   takes_are_of_feeds es m n r slot place order reply saved (inl s) feed max c = by_task s.task s.doing s.runs
@@ -1123,3 +1232,13 @@ module _ {PL : Type 0} (k : Talk PL) (on : PL → Bool → ℕ → List Found �
 
   pub batches_are_of_feeds : BatchesAreOfFeeds k
   batches_are_of_feeds es m n r token notes xs s whole t = of_feed k on well token es m n r notes xs s whole t
+
+  told_books : (t : ℕ) (kept2 : Books) (after : Option (List Arm)) → (told {PL = PL} t kept2 after).books ≡ kept2
+  told_books t kept2 None = refl
+  told_books t kept2 (Some []) = refl
+  told_books t kept2 (Some (arm ∷ arms)) = refl
+
+  pub batches_are_full : BatchesAreFull k
+  batches_are_full es m n r token notes xs s t f e =
+      let there : feed_of token t.kept.feeds ≡ Some f = ap (λ (z : Books). feed_of token z.feeds) (sym (ap (λ (z : Mach PL). z.books) t.goes ∙ told_books token t.kept t.after)) ∙ e in
+      (batches k (es ++ Say token (Batch notes xs s) true ∷ []) n (run_more k on well token fresh m n es (Say token (Batch notes xs s) true) r t) token f e, is_full k on well token es m r t.back notes xs s t.kept t.lose t.after t.doing f there)

@@ -4,7 +4,7 @@ use Rattle.reql_datum.specs.Plain.{Plain}
 use Rattle.reql_shared.specs.Acts.{Ran}
 use Rattle.reql_table_machine.specs.Fed.{takings}
 use Rattle.reql_law.specs.Laws.{known_act}
-use Rattle.reql_story.specs.Books.{Open, Books, feed_of}
+use Rattle.reql_story.specs.Books.{Open, Books, has_token, feed_of}
 use Rattle.reql_story.specs.Tasks.{Talk, Task, Telling}
 use Rattle.reql_story.specs.Minding.{has_arm}
 use Rattle.reql_story.specs.Session.{Event, On, Doing, Busy, Leaving, Mach, fresh, Run, acts_on}
@@ -35,6 +35,12 @@ module _ {PL : Type 0} where
   IsHere (Leaving arms end) = ⊥
   IsHere other = Unit {0}
 
+  -- with no task under way
+  abbrev pub IsAtRest : Doing PL → Type 0
+  IsAtRest (Busy back task) = ⊥
+  IsAtRest (Leaving arms end) = ⊥
+  IsAtRest other = Unit {0}
+
 module _ {PL : Type 0} (k : Talk PL) where
   -- Of each feed that a request of an explained session opened, at every point of the session where a feed that is kept has it as an
   -- arm: what was sent of it, then what the answer that is being told has of it, and then what is left of it in the books, is just
@@ -46,3 +52,11 @@ module _ {PL : Type 0} (k : Talk PL) where
       → (es more : List Event) (m : Mach PL) → after ≡ es ++ more → Run k fresh (o.before ++ On slot (Ran o.place o.order o.reply) o.kept ∷ es) m
       → (f : Open) → IsHere m.doing → feed_of f.token (keeps m.books m.doing).feeds ≡ Some f → has_arm slot feed f.arms ≡ true
       → all_told slot feed true es ++ (telling slot feed m.doing ++ told_items slot feed true f.left) ≡ all_taken true (takings feed (map known_act (acts_on slot es)))
+
+  -- So where its token waits, between tasks, all that its Takes gave was sent.
+  abbrev pub AllIsSent : Type 0
+  AllIsSent = (seen : DeskSeen) (share : DeskShare) (life : Life) → ((slot : ℕ) → (share.slots slot).start.table.feeds ≡ [])
+      → (slot feed stamp : ℕ) (after : List Event) (o : Opens k seen share life slot feed stamp after)
+      → (es more : List Event) (m : Mach PL) → after ≡ es ++ more → Run k fresh (o.before ++ On slot (Ran o.place o.order o.reply) o.kept ∷ es) m
+      → (f : Open) → IsAtRest m.doing → feed_of f.token m.books.feeds ≡ Some f → has_arm slot feed f.arms ≡ true → has_token f.token m.books.waiting ≡ true
+      → all_told slot feed true es ≡ all_taken true (takings feed (map known_act (acts_on slot es)))

@@ -1,5 +1,5 @@
 -- All that is said of a feed: its plan's first items, and then what its Takes gave, as it is printed.
-use Rattle.std.specs.Prelude.{◌≡◌, ℕ, suc, nat_eq, Bool, true, false, ◌&&◌, ◌||◌, cond, List, [], ◌∷◌, ◌++◌, flat_map, Option, Some, None, is_some}
+use Rattle.std.specs.Prelude.{◌≡◌, ◌⊎◌, ◌≤◌, ℕ, length, suc, nat_eq, Bool, true, false, ◌&&◌, ◌||◌, cond, List, [], ◌∷◌, ◌++◌, flat_map, Option, Some, None, is_some}
 use Rattle.std.specs.List.{AllByRecursion}
 use Rattle.reql_answer.specs.Body.{Stamped}
 use Rattle.reql_datum.specs.Plain.{Plain}
@@ -13,11 +13,11 @@ use Rattle.reql_law.specs.declared.command.Order.{Order}
 use Rattle.reql_law.specs.declared.reply.Saved.{Saved}
 use Rattle.reql_law.specs.Replies.{Answered as Told}
 use Rattle.reql_story.specs.Requests.{Arm, Shown, Feed, Answer, Batch}
-use Rattle.reql_story.specs.Books.{Open, feed_of}
+use Rattle.reql_story.specs.Books.{Open, has_token, feed_of}
 use Rattle.reql_story.specs.Tasks.{Talk, Task, Visiting, Telling, skipped_item, change_items}
 use Rattle.reql_story.specs.Minding.{has_arm, are_apart}
 use Rattle.reql_story.specs.Session.{Event, On, Come, Say, Doing, Busy, Mach, fresh, PlanEnds, Step, Run}
-use Rattle.reql_story.specs.Waiting.{EndsInVain}
+use Rattle.reql_story.specs.Waiting.{IsBatch}
 use Rattle.reql_story.specs.Owed.{keeps, IsHere}
 
 -- the printed items of an answer, and all those that were said with a token, whatever they are and of whatever arm
@@ -135,11 +135,17 @@ module _ {PL : Type 0} (k : Talk PL) where
   BatchesAreOfFeeds = (es : List Event) (m n : Mach PL) → Run k fresh es m → (token : ℕ) (notes : List ℕ) (xs : List Shown) (s : Option Stamped) (whole : Bool)
       → Step k m (Say token (Batch notes xs s) whole) n → IsOpenAt token m
 
+  -- Behind a batch that is said nothing is left, or it has as many items as a batch of its plan may have. So none is empty while
+  -- something is still to be said, unless batches are to have no items.
+  abbrev pub BatchesAreFull : Type 0
+  BatchesAreFull = (es : List Event) (m n : Mach PL) → Run k fresh es m → (token : ℕ) (notes : List ℕ) (xs : List Shown) (s : Option Stamped) → Step k m (Say token (Batch notes xs s) true) n
+      → (f : Open) → feed_of token n.books.feeds ≡ Some f → IsBatch k f.batch × ((f.left ≡ []) ⊎ (f.batch ≤ length xs))
+
   -- And every Take is of such a feed: it is asked for by a token whose open feed has that arm.
   abbrev pub TakesAreOfFeeds : Type 0
   TakesAreOfFeeds = (es : List Event) (m n : Mach PL) → Run k fresh es m → (slot place : ℕ) (order : Order) (reply : Told) (saved : Saved) → Step k m (On slot (Ran place order reply) saved) n
       → (feed max : ℕ) → order.cmd ≡ cmds.Take feed max → (token : ℕ) × (is_asking token m.doing ≡ true) × (t : IsTold token es m) × (has_arm slot feed t.arms ≡ true)
 
-  -- Where a token comes to wait, all of its feed was said: its plan's first items, and what its Takes gave.
+  -- Wherever a token waits, all of its feed was said: its plan's first items, and what its Takes gave.
   abbrev pub AllIsSaid : Type 0
-  AllIsSaid = (es : List Event) (m : Mach PL) (token : ℕ) → EndsInVain k token es m → IsOpenAt token m → due token m ≡ []
+  AllIsSaid = (es : List Event) (m : Mach PL) → Run k fresh es m → (token : ℕ) → has_token token m.books.waiting ≡ true → IsOpenAt token m → due token m ≡ []

@@ -9,6 +9,8 @@ ghost use Rattle.reql_story.specs.Laws.{InOrder, FramesHandled, WornLate, FirstF
 ghost use Rattle.reql_story.specs.Opened.{EachIsOpened};
 ghost use Rattle.reql_story.specs.Owed.{NothingKeptBack};
 ghost use Rattle.reql_story.specs.Printed.{FeedsAreTold, BatchesAreOfFeeds, TakesAreOfFeeds, AllIsSaid};
+ghost use Rattle.reql_story.specs.Owed.{NothingKeptBack, AllIsSent};
+ghost use Rattle.reql_story.specs.Printed.{FeedsAreTold, BatchesAreOfFeeds, BatchesAreFull, TakesAreOfFeeds, AllIsSaid};
 ghost use Rattle.reql_story.specs.Waiting.{StartsToWait, WaitsOn, NothingWasThere};
 
 use crate::planning::Planning;
@@ -118,20 +120,23 @@ pub fn skips_are_sent<F: Planning>()
 {}
 
 /// Every feed of an explained session, wherever it is open: of what the answers of its Takes gave, what was not sent is what the
-/// answer that is being told has of it, and then what the books keep to be sent; so where neither is, everything was sent.
+/// answer that is being told has of it, and then what the books keep to be sent; so where neither is, everything was sent, as
+/// wherever its token waits between tasks.
 pub fn nothing_kept_back<F: Planning>()
-    ensures { (f : F) → NothingKeptBack (F.talk f) }
+    ensures kept { (f : F) → NothingKeptBack (F.talk f) }
+    ensures sent { (f : F) → AllIsSent (F.talk f) }
 {}
 
 /// Wherever a token has an open feed, a plan came to it, since when it has been open: all that was said with the token from there
 /// on, and then what is still to be said, in the answer that is being told and in the books, is the plan's first items and then
 /// what the answers of its Takes give, in order, the item of a skip ahead of its batch. It is so of each item as it is printed,
 /// with its arm's place among the plan's, whatever its sort; and each batch has the plan's notes. A batch is said only with a token
-/// that has an open feed, and every Take is asked for by one whose feed has that arm. Where a token comes to wait, nothing of its
-/// feed is still to be said.
+/// that has an open feed, and leaves nothing behind it, or has as many items as it may have. Every Take is asked for by a token
+/// whose feed has that arm. Wherever a token waits, nothing of its feed is still to be said.
 pub fn feeds_are_told<F: Planning>()
     ensures told { (f : F) → FeedsAreTold (F.talk f) }
     ensures of_feeds { (f : F) → BatchesAreOfFeeds (F.talk f) }
+    ensures full { (f : F) → BatchesAreFull (F.talk f) }
     ensures takes { (f : F) → TakesAreOfFeeds (F.talk f) }
     ensures all { (f : F) → AllIsSaid (F.talk f) }
 {}

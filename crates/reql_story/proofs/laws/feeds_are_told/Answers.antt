@@ -12,3 +12,6 @@ returns-clause-takes g c = λ f. told.takes_are_of_feeds (g.F.Planning.talk f) (
 
 pub returns-clause-all : goal.returns-clause-all
 returns-clause-all g c = λ f. told.all_is_said (g.F.Planning.talk f) (g.F.Planning.on f) (g.F.Planning.minds f)
+
+pub returns-clause-full : goal.returns-clause-full
+returns-clause-full g c = λ f. told.batches_are_full (g.F.Planning.talk f) (g.F.Planning.on f) (g.F.Planning.minds f)
