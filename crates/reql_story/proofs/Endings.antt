@@ -1,7 +1,7 @@
 -- Why feeds are closed, kept along a run.
 use Rattle.std.proofs.Common.{◌≡◌, ◌⊎◌, inl, inr, ℕ, Bool, true, false, true≢false, cond, not, ◌||◌, filter, map, List, [], ◌∷◌, ◌++◌, take, drop, length, Option, Some, None, refl, sym, ap, subst, ◌∙◌, append_assoc, append-nil}
 use Rattle.std.specs.Prelude.{nat_eq, nat_le, is_some}
-use Rattle.std.proofs.lemmas.Bool.{eqb-true}
+use Rattle.std.proofs.lemmas.Bool.{eqb-true, eq-eqb}
 use Rattle.reql_table_machine.proofs.Items.{all_append}
 use Rattle.reql_table_machine.proofs.Tracking.{split}
 use Rattle.reql_table_machine.specs.declared.command.Said.{Said}
@@ -16,14 +16,15 @@ use Rattle.reql_law.specs.declared.command.Cmd.{Cmd}
 use Rattle.reql_law.specs.declared.command.Order.{Order}
 use Rattle.reql_law.specs.declared.reply.Saved.{Saved}
 use Rattle.reql_write_law.specs.declared.command.Summary.{Summary}
-use Rattle.reql_story.specs.Requests.{Asked, Unreadable, Unplanned, Start, Continue, Stop, NoreplyWait, ServerInfo, Arm, Shown, Answered, Unsent, One, Stream, Feed, Fault, Wanting, Move, Found, SawNames, Clocked, SawSlot, ChangedNames, Rolled, Answer, Failed, Internal, Last, Part, Batch, stamped}
+use Rattle.reql_story.specs.Requests.{Asked, Unreadable, Unplanned, Start, Continue, Stop, NoreplyWait, ServerInfo, Arm, Shown, Answered, Unsent, One, Stream, Feed, Fault, Wanting, Move, Found, SawNames, Clocked, SawSlot, ChangedNames, Rolled, Answer, Failed, Internal, Last, Part, Batch, points_from, stamped}
 use Rattle.reql_story.specs.Books.{Cursor, Open, Books, has_token, cursor_of, feed_of, is_open, closed, with_rest, with_left, with_cursor, with_feed, saw_names}
 use Rattle.reql_story.specs.Tasks.{Talk, Firm, Stops, Drops, Settled, Task, Planning, Visiting, Telling, Closing, Next, done, at, only_tell, close, internal_for, wanted, denied, told, stop_feed, stop, is_long, cut, tell, tell_now, comes_to, continue_cursor, continue_left, continue_feed, continue_on, visit_feed, visit, refuse, begin, takes_up, next_arm, batch_of, gone, took_said, took, ran, found_more, Runs, Asks, batch_size, is_empty, skipped_item, change_items, cut_to, fitted, others, arms_denied}
 use Rattle.reql_story.specs.Bodies.{full}
 use Rattle.reql_story.specs.Minding.{PlansMind}
 use Rattle.reql_story.specs.Session.{Event, Turn, Visit, Greeted, Begin, Heard, Lost, Quiet, Finish, Broken, Long, Wear, Poor, On, OnNames, Dice, Clock, Come, Say, Want, Doing, Rest, Visits, Busy, Mach, fresh, Step, Run, doing_next, goes_on}
 use Rattle.reql_story.specs.Owed.{task_keeps, keeps, IsHere}
-use Rattle.reql_story.specs.Endings.{IsFault, BeginsNone, IsStopped, Ends, TaskEnds, DoingEnds, EventEnds, FeedsEnd}
+use Rattle.reql_story.specs.Printed.{IsOpenAt}
+use Rattle.reql_story.specs.Endings.{IsFault, BeginsNone, IsStopped, Ends, TaskEnds, DoingEnds, EventEnds, FeedsEnd, DoingFaults, FeedsOpen}
 use Rattle.reql_story.proofs.Shelves.{which, or_false, or_true}
 use Rattle.reql_story.proofs.Printed.{feed_out, feed_kept, feed_left, feed_left_apart, feed_more, alone}
 
@@ -481,6 +482,37 @@ module _ {PL : Type 0} (k : Talk PL) (τ : ℕ) where
       }
   step_goes es m n (Say t a false) lone f s = leaving es m n (Say t a false) _ s.goes tt (λ here. here)
   step_goes es m n Want lone f s = refused es m n Want s.back s.task s.doing s.goes tt f
+
+-- ---- where a feed is opened
+more_is : (t : ℕ) (fs : List Open) (g : Open) → nat_eq g.token t ≡ true → is_some (feed_of t (fs ++ g ∷ [])) ≡ true
+more_is t [] g y = ap (λ b. is_some (cond b (Some g) None)) y
+more_is t (f ∷ fs) g y = split (nat_eq f.token t) (λ b. is_some (cond b (Some f) (feed_of t (fs ++ g ∷ []))) ≡ true) (λ _. refl) (λ _. more_is t fs g y)
+
+module _ {PL : Type 0} (k : Talk PL) where
+  -- its token has an open feed, or a fault is next
+  abbrev Opens : ℕ → Option (List ℕ) → Next PL → Type 0
+  Opens t back y = (IsHere (doing_next back y.task) × ((is_some (feed_of t y.books.feeds) || is_some (feed_of t (keeps y.books (doing_next back y.task)).feeds)) ≡ true)) ⊎ DoingFaults k t (doing_next back y.task)
+
+  opens_closing : (t : ℕ) (back : Option (List ℕ)) (b : Books) (arms : List Arm) (a : Answer) → IsFault a → Opens t back (close b t arms Settled (Some a))
+  opens_closing t back b [] a h = inr (refl, h)
+  opens_closing t back b (arm ∷ arms) a h = inr (refl, h)
+
+  or_second : (x y : Bool) → y ≡ true → (x || y) ≡ true
+  or_second true y h = refl
+  or_second false y h = h
+
+  opens_feed : (t : ℕ) (back : Option (List ℕ)) (b : Books) (batch : ℕ) (found : List Found) (opened arms : List Arm) (notes : List ℕ) (items : List Shown) → Opens t back (comes_to k b t batch found opened (Feed arms notes items))
+  opens_feed t back b batch found opened arms notes items =
+      let g : Open = record { token = t; arms = arms; left = drop batch items; batch = batch; notes = notes } in
+      let a : Answer = Batch notes (take batch items) (Some (stamped b.names (points_from [] found))) in
+      either (Opens t back) (is_long k a) (cut k b t a arms) (at b (Telling t a (with_feed g b) (Some arms) None))
+      (λ _. opens_closing t back (closed t b) arms (cut_to k a) tt)
+      (λ _. inl (tt, or_second (is_some (feed_of t b.feeds)) (is_some (feed_of t (b.feeds ++ g ∷ []))) (more_is t b.feeds g (eq-eqb t t refl))))
+
+  pub feeds_open : FeedsOpen k
+  feeds_open m n p arms notes items e =
+      let goes : n ≡ goes_on m p.back (comes_to k m.books p.token (batch_size k p.plan) p.found p.arms (Feed arms notes items)) = p.goes ∙ ap (λ z. goes_on m p.back (comes_to k m.books p.token (batch_size k p.plan) p.found p.arms z)) e in
+      subst (λ (z : Mach PL). IsOpenAt p.token z ⊎ DoingFaults k p.token z.doing) (sym goes) (opens_feed p.token p.back m.books (batch_size k p.plan) p.found p.arms arms notes items)
 
 module _ {PL : Type 0} (k : Talk PL) (on : PL → Bool → ℕ → List Found → List Arm → Type 0) (well : PlansMind k on) where
   run_more : (a m n : Mach PL) (es : List Event) (e : Event) → Run k a es m → Step k m e n → Run k a (es ++ e ∷ []) n

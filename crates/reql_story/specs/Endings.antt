@@ -2,9 +2,9 @@
 use Rattle.std.specs.Prelude.{◌≡◌, ◌⊎◌, ℕ, true, List, [], ◌∷◌, ◌++◌, Option, Some, None}
 use Rattle.std.specs.List.{AllByRecursion}
 use Rattle.reql_wire.specs.declared.frame.Frame.{Frame}
-use Rattle.reql_story.specs.Requests.{Stop, Answer, Failed, Internal}
+use Rattle.reql_story.specs.Requests.{Stop, Arm, Shown, Feed, Answer, Failed, Internal}
 use Rattle.reql_story.specs.Tasks.{Talk, Task, Telling, Closing}
-use Rattle.reql_story.specs.Session.{Event, Begin, Say, Doing, Busy, Mach, fresh, Step, Run}
+use Rattle.reql_story.specs.Session.{Event, Begin, Say, Doing, Busy, Mach, fresh, PlanEnds, Step, Run}
 use Rattle.reql_story.specs.Owed.{IsHere}
 use Rattle.reql_story.specs.Printed.{IsOpenAt}
 
@@ -55,3 +55,21 @@ module _ {PL : Type 0} (k : Talk PL) where
   abbrev pub FeedsEnd : Type 0
   FeedsEnd = (es : List Event) (m n : Mach PL) (e : Event) → Run k fresh es m → Step k m e n → (token : ℕ) → IsOpenAt token m → IsHere n.doing → (IsOpenAt token n → ⊥)
       → DoingEnds token (es ++ e ∷ []) n.doing ⊎ EventEnds token e
+
+  -- a fault is next to be told with a token, now or after arms are closed
+  abbrev pub IsFaultThere : Option Answer → Type 0
+  IsFaultThere None = ⊥
+  IsFaultThere (Some a) = IsFault a
+
+  abbrev pub TaskFaults : ℕ → Task PL → Type 0
+  TaskFaults token (Telling t a kept lose after) = (t ≡ token) × IsFault a
+  TaskFaults token (Closing t arms firm a) = (t ≡ token) × IsFaultThere a
+  TaskFaults token other = ⊥
+
+  abbrev pub DoingFaults : ℕ → Doing PL → Type 0
+  DoingFaults token (Busy back task) = TaskFaults token task
+  DoingFaults token other = ⊥
+
+  -- Where a plan comes to a feed, its token has an open feed from there on, or a fault is next to be told with it.
+  abbrev pub FeedsOpen : Type 0
+  FeedsOpen = (m n : Mach PL) (p : PlanEnds k m n) (arms : List Arm) (notes : List ℕ) (items : List Shown) → p.to ≡ Feed arms notes items → IsOpenAt p.token n ⊎ DoingFaults p.token n.doing

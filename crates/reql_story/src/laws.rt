@@ -4,6 +4,7 @@ ghost use Rattle.reql_story.specs.Answering.{EachIsAnswered};
 ghost use Rattle.reql_story.specs.Beginning.{EachBegins};
 ghost use Rattle.reql_story.specs.Continuing.{EachContinues};
 ghost use Rattle.reql_story.specs.Endings.{FeedsEnd};
+ghost use Rattle.reql_story.specs.Endings.{FeedsOpen, FeedsEnd};
 ghost use Rattle.reql_story.specs.Explained.{ExplainedBy};
 ghost use Rattle.reql_story.specs.Laws.{InOrder, FramesHandled, WornLate, FirstFailed, ValidCloses, OneMore, Learning, NothingLeft, FeedsHold, SkipsAreSent};
 ghost use Rattle.reql_story.specs.Opened.{EachIsOpened};
@@ -141,8 +142,9 @@ pub fn feeds_are_told<F: Planning>()
     ensures all { (f : F) → AllIsSaid (F.talk f) }
 {}
 
-/// While a session goes on, the open feed of a token is closed only where its client is told so: by a fault, or by the answer to a
-/// STOP that was the last frame.
+/// Where a plan comes to a feed, its token has an open feed, or its client is told a fault. While a session goes on, the open feed of
+/// a token is closed only where its client is told so: by a fault, or by the answer to a STOP that was the last frame.
 pub fn feeds_end<F: Planning>()
-    ensures { (f : F) → FeedsEnd (F.talk f) }
+    ensures opens { (f : F) → FeedsOpen (F.talk f) }
+    ensures ends { (f : F) → FeedsEnd (F.talk f) }
 {}
