@@ -3,7 +3,7 @@ ghost use Rattle.std.specs.Prelude.{◌<◌, length, map, string_bytes, IfOk, If
 ghost use Rattle.reql_words.specs.Words.{asks};
 ghost use Rattle.reql_core.specs.Core.{state_of};
 ghost use Rattle.reql_open_feed.specs.Open.{held_in};
-ghost use Rattle.reql_told.specs.Laws.{AllInOrder, AllFramesHandled, AllWornLate, AllFirstFailed, AllAreAnswered, AllWaitForNothing, AllValidClose, AllFeedsHold, AllSkipsAreSent, AllFeedsAreRead, AllFeedsAreTheirs, AllFeedsAreOpened, AllContinuesAreAnswered, AllNothingKeptBack, AllFeedsAreTold, AllBatchesAreOfFeeds, AllTakesAreOfFeeds, AllIsSaid};
+ghost use Rattle.reql_told.specs.Laws.{AllInOrder, AllFramesHandled, AllWornLate, AllFirstFailed, AllAreAnswered, AllWaitForNothing, AllValidClose, AllFeedsHold, AllSkipsAreSent, AllFeedsAreRead, AllFeedsAreTheirs, AllFeedsAreOpened, AllFeedsBegin, AllFeedsOpen, AllFeedsEnd, AllContinuesAreAnswered, AllNothingKeptBack, AllOfFeedsIsSent, AllFeedsAreTold, AllBatchesAreOfFeeds, AllBatchesAreFull, AllTakesAreOfFeeds, AllIsSaid};
 ghost use Rattle.reql_serve.specs.Many.{at_end};
 ghost use Rattle.reql_loading.specs.Loading.{IsServed, Loads, Prints, Reports, Unloaded};
 
@@ -123,10 +123,15 @@ where
     ensures feeds_hold { AllFeedsHold }
     ensures skips_are_sent { AllSkipsAreSent }
     ensures feeds_are_opened { AllFeedsAreOpened }
+    ensures feeds_begin { AllFeedsBegin }
+    ensures feeds_open { AllFeedsOpen }
+    ensures feeds_close { AllFeedsEnd }
     ensures continues_are_answered { AllContinuesAreAnswered }
     ensures nothing_kept_back { AllNothingKeptBack }
+    ensures all_is_sent { AllOfFeedsIsSent }
     ensures feeds_are_told { AllFeedsAreTold }
     ensures batches_are_of_feeds { AllBatchesAreOfFeeds }
+    ensures batches_are_full { AllBatchesAreFull }
     ensures takes_are_of_feeds { AllTakesAreOfFeeds }
     ensures all_is_said { AllIsSaid }
     ensures feeds_are_read { AllFeedsAreRead }

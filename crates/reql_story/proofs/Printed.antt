@@ -26,14 +26,9 @@ use Rattle.reql_story.specs.Tasks.{Talk, Firm, Stops, Drops, Settled, Task, Plan
 use Rattle.reql_story.specs.Bodies.{full}
 use Rattle.reql_story.specs.Minding.{has_arm, are_apart, Minds, IsOther, PlansMind}
 use Rattle.reql_story.specs.Session.{Event, Turn, Visit, Greeted, Begin, Heard, Lost, Quiet, Finish, Broken, Long, Wear, Poor, On, OnNames, Dice, Clock, Come, Say, Want, Doing, Rest, Visits, Busy, Leaving, Mach, fresh, Step, Run, doing_next, goes_on, PlanEnds}
-<<<<<<< HEAD
-use Rattle.reql_story.specs.Waiting.{IsNothing, IsBare, FoundNothing, IsVisited}
-=======
-use Rattle.reql_story.specs.Waiting.{IsNothing, IsBare, FoundNothing, IsTakenUp, EndsInVain}
->>>>>>> 7dd5166 (Wherever a token waits, everything of its feed was said; and behind a batch nothing is left, or it has as many items as it may have)
+use Rattle.reql_story.specs.Waiting.{IsNothing, IsBare, FoundNothing, IsVisited, EndsInVain}
 use Rattle.reql_story.specs.Owed.{keeps, IsHere}
 use Rattle.reql_story.specs.Printed.{items_in, said_by, all_said, AreNotes, HasNotes, printed, printed_from, given_by, left_of, task_asks, is_asking, taken_at, saying, due, IsOpenAt, StaysOpen, all_given, IsTold, FeedsAreTold, BatchesAreOfFeeds, BatchesAreFull, TakesAreOfFeeds, AllIsSaid}
-use Rattle.reql_story.proofs.Batched.{batches}
 use Rattle.reql_story.proofs.Answering.{asks_alone, plans_alone}
 use Rattle.reql_story.proofs.Waiting.{starts_to_wait}
 use Rattle.reql_story.proofs.Shelves.{which, or_false, found_token}
@@ -1127,16 +1122,10 @@ module _ {PL : Type 0} (k : Talk PL) (on : PL → Bool → ℕ → List Found �
       ]
 
 module _ {PL : Type 0} (k : Talk PL) (on : PL → Bool → ℕ → List Found → List Arm → Type 0) (well : PlansMind k on) where
-<<<<<<< HEAD
-  pub all_is_said : AllIsSaid k
-  all_is_said es m token e o =
-      let a = e.vain in
-=======
   -- where it comes to wait
   said_at_wait : (es : List Event) (m : Mach PL) (token : ℕ) → EndsInVain k token es m → IsOpenAt token m → due token m ≡ []
   said_at_wait es m token e o =
-      let a = e.asks in
->>>>>>> 7dd5166 (Wherever a token waits, everything of its feed was said; and behind a batch nothing is left, or it has as many items as it may have)
+      let a = e.vain in
       let run : Run k e.start (a.first ∷ a.takes) m = subst (λ z. Run k e.start z m) a.events a.run in
       elim (kept k on well token e.before e.start e.led).state [
         | inl d ↦ nothing_due k on well token d.arms d.notes d.apart m e.start a.first a.takes a.feed None d.fits a.begins run a.its a.left a.found o
@@ -1241,4 +1230,4 @@ module _ {PL : Type 0} (k : Talk PL) (on : PL → Bool → ℕ → List Found �
   pub batches_are_full : BatchesAreFull k
   batches_are_full es m n r token notes xs s t f e =
       let there : feed_of token t.kept.feeds ≡ Some f = ap (λ (z : Books). feed_of token z.feeds) (sym (ap (λ (z : Mach PL). z.books) t.goes ∙ told_books token t.kept t.after)) ∙ e in
-      (batches k (es ++ Say token (Batch notes xs s) true ∷ []) n (run_more k on well token fresh m n es (Say token (Batch notes xs s) true) r t) token f e, is_full k on well token es m r t.back notes xs s t.kept t.lose t.after t.doing f there)
+      is_full k on well token es m r t.back notes xs s t.kept t.lose t.after t.doing f there

@@ -17,7 +17,6 @@ use Rattle.reql_story.specs.Books.{Open, has_token, feed_of}
 use Rattle.reql_story.specs.Tasks.{Talk, Task, Visiting, Telling, skipped_item, change_items}
 use Rattle.reql_story.specs.Minding.{has_arm, are_apart}
 use Rattle.reql_story.specs.Session.{Event, On, Come, Say, Doing, Busy, Mach, fresh, PlanEnds, Step, Run}
-use Rattle.reql_story.specs.Waiting.{IsBatch}
 use Rattle.reql_story.specs.Owed.{keeps, IsHere}
 
 -- the printed items of an answer, and all those that were said with a token, whatever they are and of whatever arm
@@ -135,11 +134,11 @@ module _ {PL : Type 0} (k : Talk PL) where
   BatchesAreOfFeeds = (es : List Event) (m n : Mach PL) → Run k fresh es m → (token : ℕ) (notes : List ℕ) (xs : List Shown) (s : Option Stamped) (whole : Bool)
       → Step k m (Say token (Batch notes xs s) whole) n → IsOpenAt token m
 
-  -- Behind a batch that is said nothing is left, or it has as many items as a batch of its plan may have. So none is empty while
+  -- Behind a batch that is said nothing is left, or it has as many items as a batch of its feed may have. So none is empty while
   -- something is still to be said, unless batches are to have no items.
   abbrev pub BatchesAreFull : Type 0
   BatchesAreFull = (es : List Event) (m n : Mach PL) → Run k fresh es m → (token : ℕ) (notes : List ℕ) (xs : List Shown) (s : Option Stamped) → Step k m (Say token (Batch notes xs s) true) n
-      → (f : Open) → feed_of token n.books.feeds ≡ Some f → IsBatch k f.batch × ((f.left ≡ []) ⊎ (f.batch ≤ length xs))
+      → (f : Open) → feed_of token n.books.feeds ≡ Some f → (f.left ≡ []) ⊎ (f.batch ≤ length xs)
 
   -- And every Take is of such a feed: it is asked for by a token whose open feed has that arm.
   abbrev pub TakesAreOfFeeds : Type 0

@@ -19,8 +19,10 @@ use Rattle.reql_plan_law.specs.Texts.{too_many_cursors}
 use Rattle.reql_story.specs.Answering.{EachIsAnswered}
 use Rattle.reql_story.specs.Waiting.{NothingWasThere}
 use Rattle.reql_story.specs.Opened.{EachIsOpened}
+use Rattle.reql_story.specs.Beginning.{EachBegins}
+use Rattle.reql_story.specs.Endings.{FeedsOpen, FeedsEnd}
 use Rattle.reql_story.specs.Continuing.{EachContinues}
-use Rattle.reql_story.specs.Owed.{NothingKeptBack}
+use Rattle.reql_story.specs.Owed.{NothingKeptBack, AllIsSent}
 use Rattle.reql_story.specs.Printed as printed
 use Rattle.reql_story.specs.Bodies.{server_info}
 use Rattle.reql_story.specs.Explained.{ExplainedBy}
@@ -152,17 +154,32 @@ AllSkipsAreSent = (key : List ℕ) (limits : Limits) → story.SkipsAreSent (tal
 abbrev pub AllFeedsAreOpened : Type 0
 AllFeedsAreOpened = (key : List ℕ) (limits : Limits) → EachIsOpened (talk key limits)
 
+abbrev pub AllFeedsBegin : Type 0
+AllFeedsBegin = (key : List ℕ) (limits : Limits) → EachBegins (talk key limits)
+
+abbrev pub AllFeedsOpen : Type 0
+AllFeedsOpen = (key : List ℕ) (limits : Limits) → FeedsOpen (talk key limits)
+
+abbrev pub AllFeedsEnd : Type 0
+AllFeedsEnd = (key : List ℕ) (limits : Limits) → FeedsEnd (talk key limits)
+
 abbrev pub AllContinuesAreAnswered : Type 0
 AllContinuesAreAnswered = (key : List ℕ) (limits : Limits) → EachContinues (talk key limits)
 
 abbrev pub AllNothingKeptBack : Type 0
 AllNothingKeptBack = (key : List ℕ) (limits : Limits) → NothingKeptBack (talk key limits)
 
+abbrev pub AllOfFeedsIsSent : Type 0
+AllOfFeedsIsSent = (key : List ℕ) (limits : Limits) → AllIsSent (talk key limits)
+
 abbrev pub AllFeedsAreTold : Type 0
 AllFeedsAreTold = (key : List ℕ) (limits : Limits) → printed.FeedsAreTold (talk key limits)
 
 abbrev pub AllBatchesAreOfFeeds : Type 0
 AllBatchesAreOfFeeds = (key : List ℕ) (limits : Limits) → printed.BatchesAreOfFeeds (talk key limits)
+
+abbrev pub AllBatchesAreFull : Type 0
+AllBatchesAreFull = (key : List ℕ) (limits : Limits) → printed.BatchesAreFull (talk key limits)
 
 abbrev pub AllTakesAreOfFeeds : Type 0
 AllTakesAreOfFeeds = (key : List ℕ) (limits : Limits) → printed.TakesAreOfFeeds (talk key limits)

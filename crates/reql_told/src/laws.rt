@@ -1,5 +1,5 @@
 // Laws of sessions that plan ReQL.
-ghost use Rattle.reql_told.specs.Laws.{PlansAreTold, BatchesAgree, InfoIsServers, AllInOrder, AllFramesHandled, AllWornLate, AllFirstFailed, AllAreAnswered, AllWaitForNothing, AllValidClose, AllKept, AllOneMore, AllLearning, AllNothingLeft, AllFeedsHold, AllSkipsAreSent, AllFeedsAreOpened, AllContinuesAreAnswered, AllNothingKeptBack, AllFeedsAreTold, AllBatchesAreOfFeeds, AllTakesAreOfFeeds, AllIsSaid, AllFeedsAreRead, AllFeedsAreTheirs, AllFeedsAreAskedInTurn, AllRunNoOtherFeeds, AllFeedsEndWithTheirOwn, AllFaultyFeedsAreRefused, AllCrowdedFeedsAreRefused, AllNextFeedsAreRun, AllOpenFeedsAreTold, AllDeniedFeedsAreClosed};
+ghost use Rattle.reql_told.specs.Laws.{PlansAreTold, BatchesAgree, InfoIsServers, AllInOrder, AllFramesHandled, AllWornLate, AllFirstFailed, AllAreAnswered, AllWaitForNothing, AllValidClose, AllKept, AllOneMore, AllLearning, AllNothingLeft, AllFeedsHold, AllSkipsAreSent, AllFeedsAreOpened, AllFeedsBegin, AllFeedsOpen, AllFeedsEnd, AllContinuesAreAnswered, AllNothingKeptBack, AllOfFeedsIsSent, AllFeedsAreTold, AllBatchesAreOfFeeds, AllBatchesAreFull, AllTakesAreOfFeeds, AllIsSaid, AllFeedsAreRead, AllFeedsAreTheirs, AllFeedsAreAskedInTurn, AllRunNoOtherFeeds, AllFeedsEndWithTheirOwn, AllFaultyFeedsAreRefused, AllCrowdedFeedsAreRefused, AllNextFeedsAreRun, AllOpenFeedsAreTold, AllDeniedFeedsAreClosed};
 ghost use Rattle.reql_told.specs.Refusing.{FirstRefusal, ShapeRefusal};
 
 /// Plans, as a session is told of them, take from no feed, close only what they opened and is open still, and tell of
@@ -76,16 +76,24 @@ pub fn sessions_hold()
 {}
 
 /// The feeds that a session has open, whatever its key and its limits: each is that of a START of its own token, with its
-/// plan's arms, notes and batches; a CONTINUE on one is answered by items that were left or taken, or by a fault that has a
-/// cause, and by no batch of nothing, where its batches have an item at least; what its Takes gave is sent, or is in the answer that is being told, or is kept to
-/// be sent; and all that is said of it is its plan's first items and then what its Takes gave, item by item as each is
-/// printed, with its arm's place and the plan's notes, so that where a token comes to wait nothing is still to be said.
+/// plan's arms, notes and batches; where a plan comes to a feed its first batch is the answer, and that is open from there on,
+/// or its client is told a fault; it is closed only by a fault, or by the answer to its STOP. A CONTINUE on one is answered by
+/// items that were left or taken, or by a fault that has a cause, and by no batch of nothing, where its batches have an item
+/// at least; what its Takes gave is sent, or is in the answer that is being told, or is kept to be sent; and all that is said
+/// of it is its plan's first items and then what its Takes gave, item by item as each is printed, with its arm's place and the
+/// plan's notes, in batches as full as they may be while something is left, so that where a token waits nothing is still to be
+/// said.
 pub fn feeds_are_told()
     ensures opened { AllFeedsAreOpened }
+    ensures begins { AllFeedsBegin }
+    ensures opens { AllFeedsOpen }
+    ensures ends { AllFeedsEnd }
     ensures continues { AllContinuesAreAnswered }
     ensures kept_back { AllNothingKeptBack }
+    ensures sent { AllOfFeedsIsSent }
     ensures told { AllFeedsAreTold }
     ensures of_feeds { AllBatchesAreOfFeeds }
+    ensures full { AllBatchesAreFull }
     ensures takes { AllTakesAreOfFeeds }
     ensures said { AllIsSaid }
 {}

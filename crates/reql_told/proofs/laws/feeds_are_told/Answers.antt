@@ -1,4 +1,6 @@
+use Rattle.reql_story.proofs.Beginning as beginning
 use Rattle.reql_story.proofs.Continuing as continuing
+use Rattle.reql_story.proofs.Endings as endings
 use Rattle.reql_story.proofs.Opened as opened
 use Rattle.reql_story.proofs.Owed as owed
 use Rattle.reql_story.proofs.Printed as printed
@@ -26,3 +28,18 @@ returns-clause-takes c = λ key limits. printed.takes_are_of_feeds (talk key lim
 
 pub returns-clause-said : goal.returns-clause-said
 returns-clause-said c = λ key limits. printed.all_is_said (talk key limits) (comes_by limits) (plans_are_told key limits)
+
+pub returns-clause-begins : goal.returns-clause-begins
+returns-clause-begins c = λ key limits. beginning.each_begins (talk key limits)
+
+pub returns-clause-opens : goal.returns-clause-opens
+returns-clause-opens c = λ key limits. endings.feeds_open (talk key limits)
+
+pub returns-clause-ends : goal.returns-clause-ends
+returns-clause-ends c = λ key limits. endings.feeds_end (talk key limits) (comes_by limits) (plans_are_told key limits)
+
+pub returns-clause-sent : goal.returns-clause-sent
+returns-clause-sent c = λ key limits. owed.all_is_sent (talk key limits) (comes_by limits) (plans_are_told key limits)
+
+pub returns-clause-full : goal.returns-clause-full
+returns-clause-full c = λ key limits. printed.batches_are_full (talk key limits) (comes_by limits) (plans_are_told key limits)
