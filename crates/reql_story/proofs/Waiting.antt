@@ -345,17 +345,17 @@ module _ {PL : Type 0} (k : Talk PL) where
 
   -- ---- a step
   module _ (es : List Event) (m n : Mach PL) (e : Event) where
-    abbrev P1 : ℕ → List Arm → Type 0
-    P1 = P es m n e
+    abbrev PThere : ℕ → List Arm → Type 0
+    PThere = P es m n e
 
-    abbrev W1 : ℕ → Type 0
-    W1 = W es m n e
+    abbrev WThere : ℕ → Type 0
+    WThere = W es m n e
 
     record Goes : Type 0 where
       at : At (es ++ e ∷ []) n n.books n.doing
       waits : (t : ℕ) → has_token t n.books.waiting ≡ true → (has_token t m.books.waiting ≡ true) ⊎ EndsInVain k t (es ++ e ∷ []) n
 
-    next_at : (c : Books) (back : Option (List ℕ)) (task : Option (Task PL)) → FitsNext P1 W1 m.books c task → At (es ++ e ∷ []) n c (doing_next back task)
+    next_at : (c : Books) (back : Option (List ℕ)) (task : Option (Task PL)) → FitsNext PThere WThere m.books c task → At (es ++ e ∷ []) n c (doing_next back task)
     next_at c None None f = tt
     next_at c (Some left) None f = tt
     next_at c back (Some (Planning u plan noreply count found arms)) f = tt
@@ -363,7 +363,7 @@ module _ {PL : Type 0} (k : Talk PL) where
     next_at c back (Some (Telling u a kept lose after)) f = f
     next_at c back (Some (Closing u arms firm a)) f = tt
 
-    by_next : (x : Mach PL) (back : Option (List ℕ)) (y : Next PL) → n ≡ goes_on x back y → Good P1 W1 m.books y → Goes
+    by_next : (x : Mach PL) (back : Option (List ℕ)) (y : Next PL) → n ≡ goes_on x back y → Good PThere WThere m.books y → Goes
     by_next x back y g d = record {
       at = subst (λ (z : Mach PL). At (es ++ e ∷ []) n z.books z.doing) (sym g) (next_at y.books back y.task d.task);
       waits = λ t h. elim (d.waits t (subst (λ (z : Mach PL). has_token t z.books.waiting ≡ true) g h)) [ inl a ↦ inl a | inr w ↦ inr (w h) ];
@@ -377,10 +377,10 @@ module _ {PL : Type 0} (k : Talk PL) where
     }
 
     planned : (move : Move) (b : Books) (x : Found) → Plans k m move b x n → Within b m.books → Goes
-    planned move b x s w = by_next m s.back (found_more k b s.task x) s.goes (found_good P1 W1 k m.books b s.task x move w s.asks)
+    planned move b x s w = by_next m s.back (found_more k b s.task x) s.goes (found_good PThere WThere k m.books b s.task x move w s.asks)
 
     refused : (move : Move) → PlanDenied k m move n → Goes
-    refused move s = by_next m s.back (wanted m.books s.task) s.goes (wanted_good P1 W1 m.books s.task)
+    refused move s = by_next m s.back (wanted m.books s.task) s.goes (wanted_good PThere WThere m.books s.task)
 
     by_arm : (slot : ℕ) (arm : Arm) → LeavesArm k m slot arm n → Goes
     by_arm slot arm s = moves _ s.goes (λ b. tt) (λ t h. h)
