@@ -10,4 +10,5 @@ pub mod Numbers
 pub mod Known
 pub mod Telling
 pub mod Placing
+pub mod Subscribing
 pub mod Shutting

@@ -23,11 +23,11 @@ use Rattle.reql_table_machine.proofs.Reach.{after_docs, reach}
 use Rattle.reql_table_machine.proofs.Tracking.{split}
 
 -- one of two numbers is past the top, or neither is
-past : (top place stamp : ℕ) → (nat_lt top (suc place) || nat_lt top stamp) ≡ true → (top ≤ place) ⊎ (top < stamp)
+pub past : (top place stamp : ℕ) → (nat_lt top (suc place) || nat_lt top stamp) ≡ true → (top ≤ place) ⊎ (top < stamp)
 past top place stamp e = split (nat_lt top (suc place)) (λ b. nat_lt top (suc place) ≡ b → (b || nat_lt top stamp) ≡ true → (top ≤ place) ⊎ (top < stamp))
     (λ _ t _. inl (omega (arith, ltb-true top (suc place) t))) (λ _ _ t. inr (ltb-true top stamp t)) refl e
 
-within : (top place stamp : ℕ) → (nat_lt top (suc place) || nat_lt top stamp) ≡ false → (place < top) × (stamp ≤ top)
+pub within : (top place stamp : ℕ) → (nat_lt top (suc place) || nat_lt top stamp) ≡ false → (place < top) × (stamp ≤ top)
 within top place stamp e = split (nat_lt top (suc place)) (λ b. nat_lt top (suc place) ≡ b → (b || nat_lt top stamp) ≡ false → (place < top) × (stamp ≤ top))
     (λ _ _ t. absurd (let f : true ≡ false = t in cc)) (λ _ f t. (omega (arith, ltb-false top (suc place) f), ltb-false top stamp t)) refl e
 

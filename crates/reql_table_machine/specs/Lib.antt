@@ -4,5 +4,6 @@ pub mod Fed
 pub mod Laws
 pub mod Skips
 pub mod Telling
+pub mod Subscribing
 pub mod Sample
 pub mod Worked

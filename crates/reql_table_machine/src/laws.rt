@@ -3,6 +3,7 @@ ghost use Rattle.reql_table_machine.specs.Feeding.{Feeding, Folds};
 ghost use Rattle.reql_table_machine.specs.Laws.{RefusedStays, DocsAtStamp, LaterDocs, ShutWhereDropped, FeedsFold};
 ghost use Rattle.reql_table_machine.specs.Skips.{OldestAreSkipped, SkipsCount, NothingIsSkipped, SkipsOfFullQueues, SkipsBetweenTakes};
 ghost use Rattle.reql_table_machine.specs.Telling.{TakesTellSkips, TakesLieInOrder, TakesArePlaced};
+ghost use Rattle.reql_table_machine.specs.Subscribing.{SubscribesArePlaced};
 ghost use Rattle.reql_table_machine.specs.Sample.{one_number, Good, May};
 
 /// What a table's writes and feeds mean.
@@ -76,6 +77,15 @@ pub fn takes_tell_skips<F: Meaning>()
     ensures laid { TakesLieInOrder F.feeding }
     ensures placed { TakesArePlaced F.feeding }
     ensures shut { ShutWhereDropped F.feeding }
+{}
+
+/// A Subscribe is answered Gone exactly where the table was dropped at its place. Where it wasn't, and the
+/// history has room for one more entry, the answer is that the index is missing exactly where nothing is
+/// kept of the request; that there are too many feeds exactly where it is kept and as many are open as may
+/// be; and else a feed, by the number of the place behind it, with the items of its opening. Where the
+/// history has no room, the answer of a table that is there is that it is full.
+pub fn subscribes_are_told<F: Meaning>()
+    ensures { SubscribesArePlaced F.feeding }
 {}
 
 /// The laws of a kind of feed can be met: the feeds of a table of one number meet them.
