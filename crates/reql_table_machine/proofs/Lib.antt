@@ -7,6 +7,7 @@ pub mod Folding
 pub mod Tables
 pub mod Sampled
 pub mod Numbers
+pub mod Rising
 pub mod Known
 pub mod Telling
 pub mod Placing

@@ -95,7 +95,7 @@ module _ {D J W N P M X K I F : Type 0} (m : Feeding D J W N P M X K I F) (plain
   T = Table D J K I
 
   -- a new feed's number is the place after it
-  abbrev Numbered : T → T → Option ℕ → Type 0
+  abbrev pub Numbered : T → T → Option ℕ → Type 0
   Numbered t u None = Unit {0}
   Numbered t u (Some f) = (f ≡ suc t.place) × (f ≤ u.place)
 
@@ -133,7 +133,7 @@ module _ {D J W N P M X K I F : Type 0} (m : Feeding D J W N P M X K I F) (plain
   said_so t who cmds.Shut = shut_or t (one_more m (effect m t who cmds.Shut)) said.Closed tt
   said_so t who cmds.Sync = shut_or t (one_more m (effect m t who cmds.Sync)) said.Changed tt
 
-  numbered : (t : T) (who : ℕ) (cmd : Cmd W N P) → Numbered t (after_cmd m t who cmd) (number_in (answer m t who cmd))
+  pub numbered : (t : T) (who : ℕ) (cmd : Cmd W N P) → Numbered t (after_cmd m t who cmd) (number_in (answer m t who cmd))
   numbered t who cmd = full_or t (one_more m (effect m t who cmd)) (says m t who cmd) (said_so t who cmd)
 
   placed : (xs : List X) (t : T) → (after_changes m t xs).place ≡ t.place
@@ -153,7 +153,7 @@ module _ {D J W N P M X K I F : Type 0} (m : Feeding D J W N P M X K I F) (plain
   effect_place t who cmds.Shut = refl
   effect_place t who cmds.Sync = refl
 
-  after_place : (t : T) (who : ℕ) (cmd : Cmd W N P) → t.place ≤ (after_cmd m t who cmd).place
+  pub after_place : (t : T) (who : ℕ) (cmd : Cmd W N P) → t.place ≤ (after_cmd m t who cmd).place
   after_place t who cmd = split (adds m (answer m t who cmd)) (λ b. t.place ≤ (cond b (one_more m (effect m t who cmd)) t).place) (λ _. omega (arith, effect_place t who cmd)) (λ _. omega arith)
 
   replay_place : (t : T) (es : List (Recorded (Order (Cmd W N P)))) → t.place ≤ (replay (table_machine m) t es).place

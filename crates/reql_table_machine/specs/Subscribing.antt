@@ -1,12 +1,12 @@
--- What a Subscribe is answered: a feed, or why there is none.
-use Rattle.std.specs.Prelude.{◌≡◌, ◌≤◌, ◌<◌, ℕ, suc, ◌-◌, ◌^◌, List, ◌++◌, length, take, true, false, Option, Some, None}
+-- What a Subscribe is answered: a feed, by a number that no other has, or why there is none.
+use Rattle.std.specs.Prelude.{◌≡◌, ◌≤◌, ◌<◌, ℕ, suc, ◌-◌, ◌^◌, List, [], ◌∷◌, ◌++◌, length, take, true, false, Option, Some, None}
 use Rattle.std.specs.List.{AllByRecursion}
 use Rattle.reql_shared.specs.declared.recorded.Recorded.{Recorded}
 use Rattle.reql_shared.specs.Acts.{Act, Ran, Looked, Denied}
 use Rattle.reql_shared.specs.Machine.{replay}
 use Rattle.reql_shared.specs.Plays.{Woven}
 use Rattle.reql_table_machine.specs.Feeding.{Feeding}
-use Rattle.reql_table_machine.specs.Feeds.{Table, table_machine}
+use Rattle.reql_table_machine.specs.Feeds.{Table, answer, after, table_machine}
 use Rattle.reql_table_machine.specs.Telling.{HasRoom, HasNone}
 use Rattle.reql_table_machine.specs.declared.command.Cmd.{Cmd}
 use Rattle.reql_table_machine.specs.declared.command.Cmd.TheVariants as cmds
@@ -16,7 +16,29 @@ use Rattle.reql_table_machine.specs.declared.command.Said.TheVariants as said
 use Rattle.reql_table_machine.specs.declared.command.Reply.{Reply}
 use Rattle.reql_table_machine.specs.declared.command.Look.{Look}
 
+module _ {M I : Type 0} where
+  -- the number of the feed that an answer tells of
+  abbrev pub numbers_in : Said M I → List ℕ
+  numbers_in (said.Opened number opening) = number ∷ []
+  numbers_in other = []
+
+-- each of these is above the one before it, and the first one above n
+abbrev pub RiseFrom : ℕ → List ℕ → Type 0
+RiseFrom n [] = Unit {0}
+RiseFrom n (x ∷ xs) = (n < x) × RiseFrom x xs
+
 module _ {D J W N P M X K I F : Type 0} (m : Feeding D J W N P M X K I F) where
+  -- the numbers of all feeds that are opened along a history from a table on, whoever opens them
+  abbrev pub numbers_from : Table D J K I → List (Recorded (Order (Cmd W N P))) → List ℕ
+  numbers_from t [] = []
+  numbers_from t (e ∷ es) = numbers_in (answer m t e.by e.cmd.cmd) ++ numbers_from (after m t e.by e.cmd) es
+
+  -- Where no index command is answered by a feed, these numbers rise, and are above the table's place: rules out a number that two feeds of a table are given,
+  -- whether or not the first of them is open still.
+  abbrev pub NumbersRise : Type 0
+  NumbersRise = ((j : J) (n : N) → numbers_in (m.index_said j n) ≡ []) → (t : Table D J K I) (history : List (Recorded (Order (Cmd W N P)))) → RiseFrom t.place (numbers_from t history)
+
+  -- ---- what a Subscribe is answered at its place
   -- A feed that may be opened where this is the table: its request is kept, and fewer feeds are open than may be. Its number is that of the place after it,
   -- and it is told with the items of its opening.
   pub record MayOpen (t : Table D J K I) (kept : Option K) (number : ℕ) (opening : List I) : Type 0 where

@@ -3,7 +3,7 @@ ghost use Rattle.reql_table_machine.specs.Feeding.{Feeding, Folds};
 ghost use Rattle.reql_table_machine.specs.Laws.{RefusedStays, DocsAtStamp, LaterDocs, ShutWhereDropped, FeedsFold};
 ghost use Rattle.reql_table_machine.specs.Skips.{OldestAreSkipped, SkipsCount, NothingIsSkipped, SkipsOfFullQueues, SkipsBetweenTakes};
 ghost use Rattle.reql_table_machine.specs.Telling.{TakesTellSkips, TakesLieInOrder, TakesArePlaced};
-ghost use Rattle.reql_table_machine.specs.Subscribing.{SubscribesArePlaced};
+ghost use Rattle.reql_table_machine.specs.Subscribing.{NumbersRise, SubscribesArePlaced};
 ghost use Rattle.reql_table_machine.specs.Sample.{one_number, Good, May};
 
 /// What a table's writes and feeds mean.
@@ -86,6 +86,12 @@ pub fn takes_tell_skips<F: Meaning>()
 /// history has no room, the answer of a table that is there is that it is full.
 pub fn subscribes_are_told<F: Meaning>()
     ensures { SubscribesArePlaced F.feeding }
+{}
+
+/// The numbers of the feeds that are opened on a table rise along its history, so that no two feeds of a
+/// table are ever given one number, whoever opens them.
+pub fn numbers_rise<F: Meaning>()
+    ensures { NumbersRise F.feeding }
 {}
 
 /// The laws of a kind of feed can be met: the feeds of a table of one number meet them.
