@@ -16,13 +16,15 @@ use Rattle.reql_table_machine.specs.Feeds.{adds}
 use Rattle.reql_table_machine.specs.Fed as fed
 use Rattle.reql_table_machine.specs.Fed.{Taking}
 use Rattle.reql_table_machine.specs.Telling as telling
+use Rattle.reql_table_machine.specs.Subscribing as subscribing
 use Rattle.reql_table_machine.specs.declared.command.Cmd.{Cmd as Known}
 use Rattle.reql_table_machine.specs.declared.command.Order.{Order as Asked}
 use Rattle.reql_table_machine.proofs.Tables.{all_fed}
 use Rattle.reql_table_machine.proofs.Telling.{takes_tell_skips, takes_lie_in_order}
 use Rattle.reql_table_machine.proofs.Placing.{takes_are_placed}
+use Rattle.reql_table_machine.proofs.Subscribing.{subscribes_are_placed}
 use Rattle.reql_law.specs.Indexes.{IndexCmd}
-use Rattle.reql_law.specs.Laws.{History, Done, AreGood, May, known_act, FeedsFold, OfAllOpened, TellSkips, TakesTellSkips, LieInOrder, TakesLieInOrder, TakesArePlaced}
+use Rattle.reql_law.specs.Laws.{History, Done, AreGood, May, known_act, FeedsFold, OfAllOpened, TellSkips, TakesTellSkips, LieInOrder, TakesLieInOrder, TakesArePlaced, SubscribesArePlaced}
 use Rattle.reql_law.specs.Machine.{State, Seen, known_order, known_entry, machine, reply, seen}
 use Rattle.reql_law.specs.Replies.{Answered}
 use Rattle.reql_law.specs.Table.{Held, feeding}
@@ -124,3 +126,8 @@ pub takes_placed : TakesArePlaced
 takes_placed s before during later by acts w =
     subst (λ z. AllByRecursion (telling.ActIsPlaced (feeding s.most) s.table z) (map known_act acts)) (sym (parts_known before during later))
     (takes_are_placed (feeding s.most) s.table (map known_entry before) (map known_entry during) (map known_entry later) by (map known_act acts) (begun s before during by acts w))
+
+pub subscribes_placed : SubscribesArePlaced
+subscribes_placed s before during later by acts w =
+    subst (λ z. AllByRecursion (subscribing.SubscribeIsPlaced (feeding s.most) s.table z) (map known_act acts)) (sym (parts_known before during later))
+    (subscribes_are_placed (feeding s.most) s.table (map known_entry before) (map known_entry during) (map known_entry later) by (map known_act acts) (begun s before during by acts w))

@@ -22,6 +22,7 @@ use Rattle.reql_table_machine.specs.Fed as fed
 use Rattle.reql_table_machine.specs.Laws.{drops_from}
 use Rattle.reql_table_machine.specs.Fed.{Taking}
 use Rattle.reql_table_machine.specs.Telling as telling
+use Rattle.reql_table_machine.specs.Subscribing as subscribing
 use Rattle.reql_table_machine.specs.declared.command.Cmd.{Cmd as Known}
 use Rattle.reql_table_machine.specs.declared.command.Order.{Order as Asked}
 use Rattle.reql_law.specs.Indexes.{Indexes, IndexCmd}
@@ -167,3 +168,17 @@ abbrev pub TakesArePlaced : Type 0
 TakesArePlaced = (s : State) (before during later : History) (by : ℕ) (acts : List Done)
     → Woven machine (replay machine s before) by (length before) acts during
     → AllByRecursion (telling.ActIsPlaced (feeding s.most) s.table (map known_entry (before ++ (during ++ later)))) (map known_act acts)
+
+-- Each Subscribe of a user along a history is answered as the table at its place says: Gone exactly where the table was dropped; where it wasn't, that the history
+-- is full exactly where it has no room for one more entry; and where it has, that the index is missing exactly where nothing is kept of the request (`held`), that
+-- there are too many feeds exactly where it is kept and as many are open as may be, and else a feed, by the number of the place behind it, with the items of its
+-- opening. Rules out a feed that is refused for its index while that is there, one that is opened without it, one that is refused while fewer are open, one more
+-- than may be open, and one that is opened on a table that was dropped.
+abbrev pub SubscribesArePlaced : Type 0
+SubscribesArePlaced = (s : State) (before during later : History) (by : ℕ) (acts : List Done)
+    → Woven machine (replay machine s before) by (length before) acts during
+    → AllByRecursion (subscribing.SubscribeIsPlaced (feeding s.most) s.table (map known_entry (before ++ (during ++ later)))) (map known_act acts)
+
+-- the numbers of all feeds that are opened along a history, whoever opens them, rise: rules out a number that two feeds of a table are given
+abbrev pub NumbersRise : Type 0
+NumbersRise = (s : State) (history : History) → subscribing.RiseFrom s.table.place (subscribing.numbers_from (feeding s.most) s.table (map known_entry history))

@@ -1,7 +1,7 @@
 // Laws of the table machine, each a clause of a function that does nothing.
 ghost use Rattle.reql_law.specs.Reading.{PointsAreRead, RangesAreRead, NamedRangesAreRead, LimitsAreRead, LimitsByKeyAreRead};
 ghost use Rattle.reql_law.specs.Terms.{PointsShowTheirTerms, RangesShowTheirTerms, LimitsShowTheirTerms};
-ghost use Rattle.reql_law.specs.Laws.{RefusedStays, RecordedFit, DocsAtStamp, StampCounts, LaterDocs, DocsStay, TablesStay, WritesLand, GoodStay, IndexesStay, MakingStays, ShutWhereDropped, KindsFold, FeedsFold, TakesTellSkips, TakesLieInOrder, TakesArePlaced};
+ghost use Rattle.reql_law.specs.Laws.{RefusedStays, RecordedFit, DocsAtStamp, StampCounts, LaterDocs, DocsStay, TablesStay, WritesLand, GoodStay, IndexesStay, MakingStays, ShutWhereDropped, KindsFold, FeedsFold, TakesTellSkips, TakesLieInOrder, TakesArePlaced, SubscribesArePlaced, NumbersRise};
 
 /// A command that adds no entry leaves the table as it was, and one that does adds one to the place;
 /// places and stamps are numbers of a u64. The documents of a table are those after all changes of
@@ -52,6 +52,17 @@ pub fn takes_tell_skips()
     ensures laid { TakesLieInOrder }
     ensures placed { TakesArePlaced }
     ensures shut { ShutWhereDropped }
+{}
+
+/// A Subscribe is answered Gone exactly where the table was dropped at its place. Where it wasn't, and the
+/// history has room for one more entry, the answer is that the index is missing exactly where nothing is
+/// kept of the request; that there are too many feeds exactly where it is kept and as many are open as may
+/// be; and else a feed, by the number of the place behind it, with the items of its opening. Where the
+/// history has no room, the answer of a table that is there is that it is full. The numbers of a table's
+/// feeds rise, so that no two are ever given one number, whoever opens them.
+pub fn subscribes_are_told()
+    ensures placed { SubscribesArePlaced }
+    ensures numbers { NumbersRise }
 {}
 
 /// Requests of feeds as they are planned are read for what they mean: GET of a key, a range shape by

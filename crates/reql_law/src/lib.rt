@@ -14,7 +14,7 @@ pub use command::{Cmd, Entry, FeedSpec, Order};
 pub use engine::{Keeping, Kept, MachineState, TableEngine};
 pub use laws::{
     feed_kinds_fold, feeds_of_histories_fold, feeds_show_their_terms, requests_are_read,
-    table_laws, takes_tell_skips,
+    subscribes_are_told, table_laws, takes_tell_skips,
 };
 pub use limits::Limits;
 pub use reply::{Heard, Reply, Said, Saved, Told};

@@ -19,9 +19,9 @@ module _ {M I : Type 0} where
   same_number (said.Opened f o) = refl
   same_number other = refl
 
-  none_in : (s : Said M I) → numbers_in s ≡ [] → number_in s ≡ None
-  none_in (said.Opened f o) e = absurd (let h : (f ∷ []) ≡ [] = e in cc)
-  none_in other e = refl
+  pub number_none : (s : Said M I) → numbers_in s ≡ [] → number_in s ≡ None
+  number_none (said.Opened f o) e = absurd (let h : (f ∷ []) ≡ [] = e in cc)
+  number_none other e = refl
 
 lower : (m n : ℕ) (xs : List ℕ) → m ≤ n → RiseFrom n xs → RiseFrom m xs
 lower m n [] le up = tt
@@ -41,4 +41,4 @@ module _ {D J W N P M X K I F : Type 0} (m : Feeding D J W N P M X K I F) (plain
 
 module _ {D J W N P M X K I F : Type 0} (m : Feeding D J W N P M X K I F) where
   pub numbers_from_rise : NumbersRise m
-  numbers_from_rise plain t history = rise m (λ j n. none_in (m.index_said j n) (plain j n)) t history
+  numbers_from_rise plain t history = rise m (λ j n. number_none (m.index_said j n) (plain j n)) t history
