@@ -164,20 +164,26 @@ TakesLieInOrder = OfAllOpened LieInOrder
 -- stamp. A Subscribe is answered with the stamp that the table has at its place, too. Rules out a Take that tells a stamp which the table had earlier, or has not
 -- reached, a feed that tells another stamp than the one at which it was opened, one that is told of a drop while its table is open, one that waits on a table
 -- that was dropped, and one that is refused for a full history while there is room.
+abbrev pub AllPlaced : State → History → List Done → Type 0
+AllPlaced s history acts = AllByRecursion (telling.ActIsPlaced (feeding s.most) s.table (map known_entry history)) (map known_act acts)
+
 abbrev pub TakesArePlaced : Type 0
 TakesArePlaced = (s : State) (before during later : History) (by : ℕ) (acts : List Done)
     → Woven machine (replay machine s before) by (length before) acts during
-    → AllByRecursion (telling.ActIsPlaced (feeding s.most) s.table (map known_entry (before ++ (during ++ later)))) (map known_act acts)
+    → AllPlaced s (before ++ (during ++ later)) acts
 
 -- Each Subscribe of a user along a history is answered as the table at its place says: Gone exactly where the table was dropped; where it wasn't, that the history
 -- is full exactly where it has no room for one more entry; and where it has, that the index is missing exactly where nothing is kept of the request (`held`), that
 -- there are too many feeds exactly where it is kept and as many are open as may be, and else a feed, by the number of the place behind it, with the items of its
 -- opening. Rules out a feed that is refused for its index while that is there, one that is opened without it, one that is refused while fewer are open, one more
 -- than may be open, and one that is opened on a table that was dropped.
+abbrev pub AllSubscribed : State → History → List Done → Type 0
+AllSubscribed s history acts = AllByRecursion (subscribing.SubscribeIsPlaced (feeding s.most) s.table (map known_entry history)) (map known_act acts)
+
 abbrev pub SubscribesArePlaced : Type 0
 SubscribesArePlaced = (s : State) (before during later : History) (by : ℕ) (acts : List Done)
     → Woven machine (replay machine s before) by (length before) acts during
-    → AllByRecursion (subscribing.SubscribeIsPlaced (feeding s.most) s.table (map known_entry (before ++ (during ++ later)))) (map known_act acts)
+    → AllSubscribed s (before ++ (during ++ later)) acts
 
 -- the numbers of all feeds that are opened along a history, whoever opens them, rise: rules out a number that two feeds of a table are given
 abbrev pub NumbersRise : Type 0
