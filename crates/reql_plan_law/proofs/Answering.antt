@@ -23,7 +23,7 @@ use Rattle.reql_plan_law.specs.Texts.{too_many_feeds, history_full}
 use Rattle.reql_plan_law.proofs.Asked.{held_of, held_with, among_held, told_of, if_room, if_wanted, looks_on, clocked_on, resolved_on, comes_to_feeds, more_after, nothing_after}
 
 -- an answer that is wanted is what it is
-sent_wanted : (s : Setting) (n : Next) → s.noreply ≡ false → sent s n ≡ n
+pub sent_wanted : (s : Setting) (n : Next) → s.noreply ≡ false → sent s n ≡ n
 sent_wanted s (answered o) h = ap (λ b. answered (cond b unsent o)) h
 sent_wanted s (moves q) h = refl
 

@@ -13,5 +13,6 @@ pub mod Unsent
 pub mod Theirs
 pub mod Asked
 pub mod Answering
+pub mod Looks
 pub mod Settling
 pub mod Stacked

@@ -1,4 +1,4 @@
--- That a request that wants an answer is never answered with none.
+-- That a request that wants an answer is never answered with none; and that it looks at no slot once it has seen what its term reads.
 use Rattle.std.proofs.Common.{◌≡◌, ℕ, ℤ, zero, suc, List, [], ◌∷◌, ◌++◌, Option, Some, None, Bool, true, false, true≢false, cond, Ok, Err, refl, sym, ap, subst}
 use Rattle.reql_datum.specs.Answer.{Answer, Reason}
 use Rattle.reql_datum.specs.Plain.{Plain}
@@ -41,7 +41,7 @@ use Rattle.reql_plan_law.specs.Course.{Open, lost, names_heard, moment_by, momen
 use Rattle.reql_plan_law.specs.Feeding.{Feeding, feeding}
 use Rattle.reql_plan_law.specs.Held.{Held, Read, nothing_read}
 use Rattle.reql_plan_law.specs.Minds.{UnsentOnlyWithNoreply}
-use Rattle.reql_plan_law.specs.Move.{Replied, Heard, names, told, looked, ran, changed, rolled, Outcome, unsent, sequence}
+use Rattle.reql_plan_law.specs.Move.{Ask, look, Replied, Heard, names, told, looked, ran, changed, rolled, Outcome, unsent, sequence}
 use Rattle.reql_plan_law.specs.Reads.{has_now, leaks, now_rule, read_slots, with_element}
 use Rattle.reql_plan_law.specs.Request.{Request, ends, asks, Moves, give, refuse, from, request, Next, answered, moves, next}
 use Rattle.reql_plan_law.specs.Settled.{there, meant_of, datum_of, sequence_of}
@@ -49,22 +49,27 @@ use Rattle.reql_plan_law.specs.Summed.{added, nothing_done}
 use Rattle.reql_plan_law.specs.Texts.{undetermined, too_many_cursors}
 use Rattle.reql_plan_law.specs.Writes.{prepared, with_keys}
 
-module _ (s : Setting) where
+-- of a request in this setting, where a look at a slot is so much
+module _ (Look : Type 0) (s : Setting) where
   -- no answer is one only where none is wanted
   abbrev Wanted : Outcome → Type 0
   Wanted unsent = s.noreply ≡ true
   Wanted o = Unit {0}
 
-  -- at each end of a request, whatever it is answered
-  abbrev Answers : Request → Type 0
+  abbrev pub Looks : Ask → Type 0
+  Looks (look n) = Look
+  Looks q = Unit {0}
+
+  -- at each move and each end of a request, whatever it is answered
+  abbrev pub Answers : Request → Type 0
   Answers (ends o) = Wanted o
-  Answers (asks q on) = (h : Heard) → Answers (on h)
+  Answers (asks q on) = Looks q × ((h : Heard) → Answers (on h))
 
   abbrev Keeps : {A : Type 0} → Moves A → Type 0
   Keeps {A} m = (on : A → Request) → ((a : A) → Answers (on a)) → Answers (m on)
 
   -- what gives an outcome, as the last that is done
-  abbrev Tells : Moves Outcome → Type 0
+  abbrev pub Tells : Moves Outcome → Type 0
   Tells m = Answers (m ends)
 
   keeps_from : {A : Type 0} (x : Answer A) → Keeps (from x)
@@ -116,9 +121,9 @@ module _ (s : Setting) where
   keeps_seen ns r n (changed q) on k = tt
   keeps_seen ns r n (rolled bs) on k = tt
 
-  keeps_looks : (ns : Named) (r : Read) (slots : List ℕ) → Keeps (looks ns r slots)
-  keeps_looks ns r [] on k = k r
-  keeps_looks ns r (n ∷ rest) on k = λ h. keeps_seen ns r n h (λ seen. looks ns seen rest on) (λ seen. keeps_looks ns seen rest on k)
+  keeps_looks : Look → (ns : Named) (r : Read) (slots : List ℕ) → Keeps (looks ns r slots)
+  keeps_looks may ns r [] on k = k r
+  keeps_looks may ns r (n ∷ rest) on k = (may, λ h. keeps_seen ns r n h (λ seen. looks ns seen rest on) (λ seen. keeps_looks may ns seen rest on k))
 
   -- ---- commands
   keeps_said : (ns : Named) (n : ℕ) (r : Replied) → Keeps (said_by ns n r)
@@ -149,7 +154,7 @@ module _ (s : Setting) where
   keeps_reply ns n (rolled bs) on k = tt
 
   keeps_command : (e : Held) (n : ℕ) (c : Cmd) → Keeps (command e n c)
-  keeps_command e n c on k = λ h. keeps_reply e.names n h on k
+  keeps_command e n c on k = (tt, λ h. keeps_reply e.names n h on k)
 
   -- ---- writes
   keeps_key_by : (bs : Option Bytes) → Keeps (key_by bs)
@@ -166,7 +171,7 @@ module _ (s : Setting) where
 
   keeps_keys : (made : List Plain) (n : ℕ) → Keeps (keys made n)
   keeps_keys made zero on k = k made
-  keeps_keys made (suc n) on k = λ h. keeps_key h (λ d. keys (made ++ d ∷ []) n on) (λ d. keeps_keys (made ++ d ∷ []) n on k)
+  keeps_keys made (suc n) on k = (tt, λ h. keeps_key h (λ d. keys (made ++ d ∷ []) n on) (λ d. keeps_keys (made ++ d ∷ []) n on k))
 
   keeps_summary : (r : Replied) → Keeps (summary_said r)
   keeps_summary (said.Done x) on k = k x
@@ -245,7 +250,7 @@ module _ (s : Setting) where
   tells_change e c (rolled bs) = tt
 
   tells_catalogue : (e : Held) (o : Op) (fs : Forms) (ms : NamedForms) → Tells (change_catalogue e o fs ms)
-  tells_catalogue e o fs ms = keeps_from (cat_command e o fs ms) _ (λ c h. tells_change e c h)
+  tells_catalogue e o fs ms = keeps_from (cat_command e o fs ms) _ (λ c. (tt, λ h. tells_change e c h))
 
   tells_table_said : (c : Commanded) (r : Replied) → Tells (table_said c r)
   tells_table_said c (said.Done x) = tt
@@ -268,7 +273,7 @@ module _ (s : Setting) where
   -- ---- feeds
   keeps_closing : {A : Type 0} (e : Held) (why : Reason) (os : List Open) (on : A → Request) → Answers (closing e why os on)
   keeps_closing e why [] on = tt
-  keeps_closing e why (o ∷ os) on = λ h. keeps_closing e why os on
+  keeps_closing e why (o ∷ os) on = (tt, λ h. keeps_closing e why os on)
 
   keeps_opened : (e : Held) (before : List Open) (o : Opening) (stamp : ℕ) (r : Replied) → Keeps (opened_by e before o stamp r)
   keeps_opened e before o stamp (said.Done x) on k = tt
@@ -302,7 +307,7 @@ module _ (s : Setting) where
   keeps_subscribed : (e : Held) (before : List Open) (os : List Opening) → Keeps (subscribed e before os)
   keeps_subscribed e before [] on k = k before
   keeps_subscribed e before (o ∷ os) on k =
-      λ h. keeps_heard e before o h (λ x. subscribed e (before ++ x ∷ []) os on) (λ x. keeps_subscribed e (before ++ x ∷ []) os on k)
+      (tt, λ h. keeps_heard e before o h (λ x. subscribed e (before ++ x ∷ []) os on) (λ x. keeps_subscribed e (before ++ x ∷ []) os on k))
 
   tells_opens : (e : Held) (f : Feeding) → Tells (opens e f)
   tells_opens e f = keeps_subscribed e [] f.openings _ (λ os. tt)
@@ -332,7 +337,7 @@ module _ (s : Setting) where
   tells_task e task.Feed o fs ms arms own ta = tells_changes e fs ms own
 
   mutual
-    tells_carried : (e : Held) (f : Form) → e.setting ≡ s → Tells (carried e f)
+    pub tells_carried : (e : Held) (f : Form) → e.setting ≡ s → Tells (carried e f)
     tells_carried e (literal d) own = tells_shown e (literal d)
     tells_carried e (several fs) own = tells_shown e (several fs)
     tells_carried e (keyed ms) own = tells_shown e (keyed ms)
@@ -349,21 +354,21 @@ module _ (s : Setting) where
         (λ d. tells_cond (truth d) (carried e g) (branched e fs) (tells_carried e g own) (tells_branched e fs own))
 
   -- ---- the whole
-  tells_read : (p : Plan) (ns : Named) (f : Form) → Tells (read p s ns f)
-  tells_read p ns f = keeps_looks ns nothing_read (read_slots f) (λ r. carried (held p s ns r) f ends) (λ r. tells_carried (held p s ns r) f refl)
+  tells_read : Look → (p : Plan) (ns : Named) (f : Form) → Tells (read p s ns f)
+  tells_read may p ns f = keeps_looks may ns nothing_read (read_slots f) (λ r. carried (held p s ns r) f ends) (λ r. tells_carried (held p s ns r) f refl)
 
-  tells_timed : (p : Plan) (ns : Named) (f : Form) → Tells (timed p s ns f)
-  tells_timed p ns f = λ h. keeps_moment h _ (λ n. keeps_from (rewritten (now_rule n) f) _ (λ g. tells_read p ns g))
+  tells_timed : Look → (p : Plan) (ns : Named) (f : Form) → Tells (timed p s ns f)
+  tells_timed may p ns f = (tt, λ h. keeps_moment h _ (λ n. keeps_from (rewritten (now_rule n) f) _ (λ g. tells_read may p ns g)))
 
-  tells_at_moment : (p : Plan) (ns : Named) (f : Form) → Tells (at_moment p s ns f)
-  tells_at_moment p ns f = tells_cond (has_now f) (timed p s ns f) (read p s ns f) (tells_timed p ns f) (tells_read p ns f)
+  tells_at_moment : Look → (p : Plan) (ns : Named) (f : Form) → Tells (at_moment p s ns f)
+  tells_at_moment may p ns f = tells_cond (has_now f) (timed p s ns f) (read p s ns f) (tells_timed may p ns f) (tells_read may p ns f)
 
-  tells_resolving : (p : Plan) (ns : Named) → Tells (resolving p s ns)
-  tells_resolving p ns = keeps_from (resolved ns p.db p.term) _
-      (λ f. keeps_cond (leaks false f) (refuse undetermined) (give f) (λ q j. tt) (λ q j. j f) _ (λ g. tells_at_moment p ns g))
+  tells_resolving : Look → (p : Plan) (ns : Named) → Tells (resolving p s ns)
+  tells_resolving may p ns = keeps_from (resolved ns p.db p.term) _
+      (λ f. keeps_cond (leaks false f) (refuse undetermined) (give f) (λ q j. tt) (λ q j. j f) _ (λ g. tells_at_moment may p ns g))
 
-  tells_course : (p : Plan) → Answers (request (course p s))
-  tells_course p = λ h. keeps_names h _ (λ ns. tells_resolving p ns)
+  tells_course : Look → (p : Plan) → Answers (request (course p s))
+  tells_course may p = (tt, λ h. keeps_names h _ (λ ns. tells_resolving may p ns))
 
   -- ---- what a plan is answered after its answers so far
   abbrev is_move : Next → Bool
@@ -381,7 +386,7 @@ module _ (s : Setting) where
   unsent_then : (r : Request) (hs : List Heard) → Answers r → sent s (next r hs) ≡ answered unsent → s.noreply ≡ true
   unsent_then (ends o) hs a h = none_wanted s.noreply o refl a (ap outcome_in h)
   unsent_then (asks q on) [] a h = absurd (true≢false (ap is_move h))
-  unsent_then (asks q on) (x ∷ hs) a h = unsent_then (on x) hs (a x) h
+  unsent_then (asks q on) (x ∷ hs) a h = unsent_then (on x) hs (a.1 x) h
 
 pub unsent_only_with_noreply : UnsentOnlyWithNoreply
-unsent_only_with_noreply p s hs h = unsent_then s (request (course p s)) hs (tells_course s p) h
+unsent_only_with_noreply p s hs h = unsent_then (Unit {0}) s (request (course p s)) hs (tells_course (Unit {0}) s tt p) h

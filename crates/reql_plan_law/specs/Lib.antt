@@ -16,5 +16,6 @@ pub mod Follows
 pub mod Opens
 pub mod Theirs
 pub mod Asked
+pub mod Looks
 pub mod Answering
 pub mod Settling

@@ -2,6 +2,7 @@
 ghost use Rattle.reql_plan_law.specs.Answering.{CrowdedFeedsAreRefused, DeniedFeedsAreClosed, FaultyFeedsAreRefused, NextFeedIsAsked, OpenFeedsAreTold};
 ghost use Rattle.reql_plan_law.specs.Asked.{EachIsOfItsTerm, FeedsAreAskedInTurn, FeedsEndWithTheirOwn, NoOtherFeedsAreAsked};
 ghost use Rattle.reql_plan_law.specs.Follows.{FeedsAreRead, LimitsAreRead, PointsAreRead, RangesAreRead};
+ghost use Rattle.reql_plan_law.specs.Looks.{EachIsSeenAtItsSlot, NoOthersAreLookedAt, ReadSlotsAreLookedAt, ReadSlotsRise, TermsGoOnInWhatWasSeen, ValuesAreOfWhatWasSeen};
 ghost use Rattle.reql_plan_law.specs.Minds.{PlansMind, PlansMindEachStep, UnsentOnlyWithNoreply};
 ghost use Rattle.reql_plan_law.specs.Opens.{AskedFeedsAreRead, PlannedFeedsAreRead};
 ghost use Rattle.reql_plan_law.specs.Settling.{FeedsMeanTheSame, SettledMeansTheSame};
@@ -89,4 +90,18 @@ pub fn changes_are_answered()
 pub fn settled_means_the_same()
     ensures terms { SettledMeansTheSame }
     ensures feeds { FeedsMeanTheSame }
+{}
+
+/// A plan looks at the slots that its term reads, and at no others, whatever its moves are answered: once its names are heard,
+/// and the moment where its term asks for it, at one after another by rising number, each once, as long as there is a table at
+/// each. When it has seen them all, its term goes on in the world that has, for each of these slots, the table that was seen at
+/// the look at that very slot, and no other tables. So what a request that commands nothing is answered is what its term gives
+/// over these tables, or why it gives nothing.
+pub fn looks_are_of_the_term()
+    ensures slots { ReadSlotsRise }
+    ensures looks { ReadSlotsAreLookedAt }
+    ensures others { NoOthersAreLookedAt }
+    ensures seen { EachIsSeenAtItsSlot }
+    ensures terms { TermsGoOnInWhatWasSeen }
+    ensures values { ValuesAreOfWhatWasSeen }
 {}
