@@ -13,8 +13,8 @@ ghost use Rattle.reql_shelf.specs.Kept.{books_of, cursor_kept};
 ghost use Rattle.reql_session.specs.Settling.{SettlesOrWants, working};
 ghost use Rattle.reql_session.specs.Keeping.{Keeps};
 
+use crate::losing::lose_with;
 use crate::telling::{after, tell, tell_internal};
-use crate::visiting::lose_with;
 use crate::voice::Voice;
 use reql_bodies::{batch as feed_batch, cut_to, is_long, last, part};
 use reql_catalog::Catalogue;

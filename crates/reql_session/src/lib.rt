@@ -6,11 +6,14 @@
 
 mod answers;
 mod arms;
+mod batching;
 mod beginning;
 mod changes;
 mod continuing;
 mod ending;
+mod gone;
 mod leaving;
+mod losing;
 mod opening;
 mod points;
 mod session;

@@ -9,7 +9,7 @@ use Rattle.reql_session.specs.Settling.{working}
 use Rattle.reql_session.proofs.Tokens.{found_is, keeps_left}
 use Rattle.reql_session.proofs.Batched.{tells_long, tells_lost, tells_so}
 use Rattle.reql_session.proofs.Given.{batch_bytes}
-use Rattle.reql_session.proofs.visiting.tell_items.Goals as goal
+use Rattle.reql_session.proofs.batching.tell_items.Goals as goal
 
 pub returns-in_default-feed_batch-clause-told : goal.returns-in_default-feed_batch-clause-told
 returns-in_default-feed_batch-clause-told g c = λ k clock dice f l found.

@@ -3,7 +3,7 @@ use Rattle.reql_shelf.specs.Kept.{books_of}
 use Rattle.reql_session.specs.Keeping.{Keeps}
 use Rattle.reql_session.proofs.Tokens.{keeps_closed, found_there}
 use Rattle.reql_session.proofs.Batched.{lost_found}
-use Rattle.reql_session.proofs.visiting.lose_with.Goals as goal
+use Rattle.reql_session.proofs.losing.lose_with.Goals as goal
 
 pub finish-requires-clause-there : goal.finish-requires-clause-there
 finish-requires-clause-there g c = rw (sym c.as_slice-arms.ensures.value) at (found_there _ c.args.token (books_of c.args.shelf.now).feeds c.in-Some.feed c.in-Some.ensures.feed c.requires.there)

@@ -7,7 +7,7 @@ use Rattle.reql_shelf.specs.Kept.{books_of}
 use Rattle.reql_session.specs.Batches.{items_of}
 use Rattle.reql_session.specs.Settling.{working}
 use Rattle.reql_session.proofs.Given.{skip_at, items_lost, items_told}
-use Rattle.reql_session.proofs.visiting.told_some.Goals as goal
+use Rattle.reql_session.proofs.batching.told_some.Goals as goal
 
 pub returns-in_default-clause-told : goal.returns-in_default-clause-told
 returns-in_default-clause-told g c = λ k clock dice f l found.

@@ -8,7 +8,7 @@ use Rattle.reql_session.specs.Keeping.{Keeps}
 use Rattle.reql_session.specs.Settling.{working}
 use Rattle.reql_session.proofs.Tokens.{feed_token, keeps_waits}
 use Rattle.reql_session.proofs.Given.{batch_none, batch_some}
-use Rattle.reql_session.proofs.visiting.told_batch.Goals as goal
+use Rattle.reql_session.proofs.batching.told_batch.Goals as goal
 
 pub returns-then-shows_nothing-clause-keeps : goal.returns-then-shows_nothing-clause-keeps
 returns-then-shows_nothing-clause-keeps g c = λ rest f found none off keeps.

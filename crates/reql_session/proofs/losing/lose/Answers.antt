@@ -4,7 +4,7 @@ use Rattle.reql_shelf.specs.Kept.{books_of}
 use Rattle.reql_session.specs.Keeping.{Keeps}
 use Rattle.reql_session.proofs.Tokens.{keeps_closed, found_there}
 use Rattle.reql_session.proofs.Batched.{lost_found}
-use Rattle.reql_session.proofs.visiting.lose.Goals as goal
+use Rattle.reql_session.proofs.losing.lose.Goals as goal
 
 pub finish_internal-requires-clause-there : goal.finish_internal-requires-clause-there
 finish_internal-requires-clause-there g c = rw (sym c.as_slice-arms.ensures.value) at (found_there _ c.args.token (books_of c.args.shelf.now).feeds c.in-Some.feed c.in-Some.ensures.feed c.requires.there)

@@ -5,7 +5,7 @@ use Rattle.reql_session.specs.Keeping.{Keeps}
 use Rattle.reql_session.proofs.Settled.{settles_so}
 use Rattle.reql_session.proofs.Tokens.{keeps_closed}
 use Rattle.reql_session.proofs.Batched.{with_books, says_wanted}
-use Rattle.reql_session.proofs.visiting.told_gone_alone.Goals as goal
+use Rattle.reql_session.proofs.gone.told_gone_alone.Goals as goal
 
 pub returns-in_default-clause-told : goal.returns-in_default-clause-told
 returns-in_default-clause-told g c = λ k w a is. says_wanted k _ _ w (books_of c.args.shelf.now) c.args.token a (closed c.args.token (books_of c.args.shelf.now)) c.tell_internal.result (c.tell_internal.ensures k (with_books w (books_of c.args.shelf.now)))

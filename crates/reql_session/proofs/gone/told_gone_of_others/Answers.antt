@@ -4,7 +4,7 @@ use Rattle.reql_shelf.specs.Kept.{books_of}
 use Rattle.reql_session.specs.Keeping.{Keeps}
 use Rattle.reql_session.proofs.Tokens.{found_there, keeps_closed}
 use Rattle.reql_session.proofs.Given.{others_there, others_closed}
-use Rattle.reql_session.proofs.visiting.told_gone_of_others.Goals as goal
+use Rattle.reql_session.proofs.gone.told_gone_of_others.Goals as goal
 
 pub end_arms-requires-clause-there : goal.end_arms-requires-clause-there
 end_arms-requires-clause-there g c = subst (AreThere (length c.args.hall.now.slots)) (sym c.as_slice.ensures.value)

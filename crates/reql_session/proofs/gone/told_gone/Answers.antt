@@ -12,7 +12,7 @@ use Rattle.reql_session.specs.Batches.{is_none_of}
 use Rattle.reql_session.specs.Settling.{working}
 use Rattle.reql_session.proofs.Tokens.{feed_token, found_is}
 use Rattle.reql_session.proofs.Given.{gone_others, gone_alone, has_more}
-use Rattle.reql_session.proofs.visiting.told_gone.Goals as goal
+use Rattle.reql_session.proofs.gone.told_gone.Goals as goal
 
 pub returns-in_default-arm_at-clause-told : goal.returns-in_default-arm_at-clause-told
 returns-in_default-arm_at-clause-told g c = λ k clock dice f arm arms l found d.
