@@ -5,7 +5,6 @@ use Rattle.std.proofs.lemmas.Grind.{flat_map-append}
 use Rattle.std.proofs.lemmas.Bool.{eq-eqb, ne_eqb}
 use Rattle.std.proofs.lemmas.List.{map-append}
 use Rattle.reql_datum.specs.Plain.{Plain}
-use Rattle.reql_rules.specs.Types.{same_text}
 use Rattle.reql_write_law.specs.declared.command.Summary.{Summary}
 use Rattle.reql_write_law.specs.declared.command.WriteCmd.{WriteCmd}
 use Rattle.reql_shared.specs.Machine.{replay}
@@ -21,7 +20,7 @@ use Rattle.reql_table_machine.specs.declared.command.Said.{Said}
 use Rattle.reql_table_machine.specs.declared.command.Said.TheVariants as said
 use Rattle.reql_table_machine.proofs.Items.{all_left, all_right}
 use Rattle.reql_table_machine.proofs.Numbers.{number_in, number_of, IsNot, OpensFrom, apart, numbers_rise}
-use Rattle.reql_law.specs.Indexes.{Indexes, IndexCmd, create, drop, rename, index_said, is_there, is_taken}
+use Rattle.reql_law.specs.Indexes.{IndexCmd}
 use Rattle.reql_law.specs.Laws.{History, known_act, docs_at, AreGood, AllFed, OfAllOpened, TellSkips, LieInOrder}
 use Rattle.reql_law.specs.Machine.{State, Seen, machine, known_cmd, known_order, known_entry}
 use Rattle.reql_law.specs.Replies.{Answered as Told}
@@ -29,6 +28,7 @@ use Rattle.reql_law.specs.Table.{Held, held, feeding}
 use Rattle.reql_law.specs.declared.command.Cmd.TheVariants as cmds
 use Rattle.reql_law.specs.declared.command.FeedSpec.{FeedSpec}
 use Rattle.reql_law.specs.declared.command.Order.{Order}
+use Rattle.reql_law.proofs.Numbers.{index_opens_none}
 use Rattle.reql_law.proofs.Replays.{tables, replay_is}
 use Rattle.reql_law.proofs.Weaves.{woven_known, feeds_fold, takes_tell, takes_lie}
 use Rattle.reql_story.specs.Requests.{Arm, Sort, Opening, State as StateItem, Skip, Change, Shown, Answer, Client, Compile, Failed, Internal, Atom, Last, Part as PartOf, Batch, Waited, Info, Found}
@@ -48,21 +48,6 @@ module _ {A B : Type 0} where
 
 abbrev pub Known1 : Type 0
 Known1 = Act (Asked (Known WriteCmd IndexCmd FeedSpec)) Told (Unit {0}) Seen
-
--- index commands open no feeds
-abbrev IsNone : Said Summary Plain → Type 0
-IsNone s = number_in s ≡ None
-
-by_two : (b : Bool) (x y : Said Summary Plain) → IsNone x → IsNone y → IsNone (cond b x y)
-by_two true x y p q = p
-by_two false x y p q = q
-
-pub index_opens_none : (j : Indexes) (n : IndexCmd) → number_in (index_said {M = Summary} {I = Plain} j n) ≡ None
-index_opens_none j (create name i) = by_two (is_there name j) said.IndexExists said.Changed refl refl
-index_opens_none j (drop name) = by_two (is_there name j) said.Changed said.IndexMissing refl refl
-index_opens_none j (rename old new overwrite) =
-    by_two (not (is_there old j)) said.IndexMissing _ refl
-    (by_two (same_text old new) said.Changed _ refl (by_two (is_taken new overwrite j) said.IndexExists said.Changed refl refl))
 
 -- changes alone are what is told where nothing of skips is
 module _ (σ φ : ℕ) where

@@ -28,6 +28,7 @@ use Rattle.reql_law.specs.declared.command.Cmd.TheVariants as cmds
 use Rattle.reql_law.specs.declared.command.FeedSpec.{FeedSpec}
 use Rattle.reql_law.specs.declared.command.Order.{Order}
 use Rattle.reql_law.specs.declared.reply.Saved.{Saved}
+use Rattle.reql_law.proofs.Numbers.{index_opens_none}
 use Rattle.reql_law.proofs.Weaves.{woven_known}
 use Rattle.reql_story.specs.Requests.{Arm, Found}
 use Rattle.reql_story.specs.Tasks.{Talk, Task, Planning, Visiting, Telling, Closing, Runs, take_order}
@@ -39,7 +40,7 @@ use Rattle.reql_story.proofs.Shelves.{or_false, which, has}
 use Rattle.reql_story.proofs.Tellings.{OkTask}
 use Rattle.reql_story.proofs.Sendings.{NotOpened, is_it}
 use Rattle.reql_story.proofs.Fronts.{known_on, OkDoing, OkM, over_in, NotOpens, step_ok, nils, opens, parts}
-use Rattle.reql_story.proofs.Feeding.{index_opens_none, all_not}
+use Rattle.reql_story.proofs.Feeding.{all_not}
 use Rattle.reql_story.proofs.Staying.{is_subscribe, took_nothing, stands, Keeps, stays_open}
 use Rattle.reql_story.proofs.Waiting.{waits_on}
 

@@ -1,4 +1,5 @@
 pub mod Answering
+pub mod Arms
 pub mod Beginning
 pub mod Closings
 pub mod Continuing

@@ -31,8 +31,8 @@ use Rattle.reql_law.specs.declared.command.Cmd.{Cmd}
 use Rattle.reql_law.specs.declared.command.Cmd.TheVariants as cmds
 use Rattle.reql_law.specs.declared.command.FeedSpec.{FeedSpec}
 use Rattle.reql_law.specs.declared.command.Order.{Order}
+use Rattle.reql_law.proofs.Numbers.{index_opens_none}
 use Rattle.reql_story.specs.Waiting.{IsNothing, IsBare}
-use Rattle.reql_story.proofs.Feeding.{index_opens_none}
 
 abbrev Command : Type 0
 Command = Known WriteCmd IndexCmd FeedSpec

@@ -12,6 +12,7 @@ pub mod Printed
 pub mod Endings
 pub mod Answering
 pub mod Opened
+pub mod Arms
 pub mod Waiting
 pub mod Continuing
 pub mod Beginning

@@ -1,6 +1,7 @@
 // Laws of explained sessions.
 ghost use Rattle.reql_hall.specs.Shares.{IsKept};
 ghost use Rattle.reql_story.specs.Answering.{EachIsAnswered};
+ghost use Rattle.reql_story.specs.Arms.{ArmsAreApart};
 ghost use Rattle.reql_story.specs.Beginning.{EachBegins};
 ghost use Rattle.reql_story.specs.Continuing.{EachContinues};
 ghost use Rattle.reql_story.specs.Endings.{FeedsEnd};
@@ -147,4 +148,10 @@ pub fn feeds_are_told<F: Planning>()
 pub fn feeds_end<F: Planning>()
     ensures opens { (f : F) → FeedsOpen (F.talk f) }
     ensures ends { (f : F) → FeedsEnd (F.talk f) }
+{}
+
+/// No feed that a session has open has an arm twice, and no two have one in common, by the arms' slots and numbers: so it is at
+/// each moment of an explained session.
+pub fn arms_are_apart<F: Planning>()
+    ensures { (f : F) → ArmsAreApart (F.talk f) }
 {}
