@@ -12,6 +12,7 @@ pub mod Idling
 pub mod Opened
 pub mod Orders
 pub mod Owed
+pub mod Placed
 pub mod Printed
 pub mod Overs
 pub mod Rests

@@ -7,7 +7,7 @@ ghost use Rattle.reql_story.specs.Continuing.{EachContinues};
 ghost use Rattle.reql_story.specs.Endings.{FeedsEnd};
 ghost use Rattle.reql_story.specs.Endings.{FeedsOpen, FeedsEnd};
 ghost use Rattle.reql_story.specs.Explained.{ExplainedBy};
-ghost use Rattle.reql_story.specs.Laws.{InOrder, FramesHandled, WornLate, FirstFailed, ValidCloses, OneMore, Learning, NothingLeft, FeedsHold, SkipsAreSent};
+ghost use Rattle.reql_story.specs.Laws.{InOrder, FramesHandled, WornLate, FirstFailed, ValidCloses, OneMore, Learning, NothingLeft, FeedsHold, SkipsAreSent, TakesArePlaced, SubscribesArePlaced};
 ghost use Rattle.reql_story.specs.Opened.{EachIsOpened};
 ghost use Rattle.reql_story.specs.Owed.{NothingKeptBack};
 ghost use Rattle.reql_story.specs.Printed.{FeedsAreTold, BatchesAreOfFeeds, TakesAreOfFeeds, AllIsSaid};
@@ -154,4 +154,14 @@ pub fn feeds_end<F: Planning>()
 /// each moment of an explained session.
 pub fn arms_are_apart<F: Planning>()
     ensures { (f : F) → ArmsAreApart (F.talk f) }
+{}
+
+/// Each Take and each Subscribe of an explained session is answered as the table of its slot says at its place, with the stamp
+/// that this has there. A Take of an open feed is told Nothing only while its table isn't dropped, and Gone only when it was. A
+/// Subscribe is answered Gone exactly where its table was dropped; where it wasn't, and the history has room, that the index is
+/// missing exactly where nothing is kept of the request, that there are too many feeds exactly where it is kept and as many are
+/// open as may be, and else by a feed.
+pub fn answers_are_placed<F: Planning>()
+    ensures takes { (f : F) → TakesArePlaced (F.talk f) }
+    ensures subscribes { (f : F) → SubscribesArePlaced (F.talk f) }
 {}
