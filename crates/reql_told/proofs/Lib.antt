@@ -3,3 +3,4 @@ pub mod Refusing
 pub mod Worked
 pub mod Once
 pub mod Feeds
+pub mod Looks

@@ -3,6 +3,7 @@ pub mod Told
 pub mod Minding
 pub mod Refusing
 pub mod Feeds
+pub mod Looks
 pub mod Laws
 pub mod Talks
 pub mod Worked

@@ -1,5 +1,7 @@
 // Laws of sessions that plan ReQL.
+ghost use Rattle.reql_plan_law.specs.Looks.{ReadSlotsRise};
 ghost use Rattle.reql_told.specs.Laws.{PlansAreTold, BatchesAgree, InfoIsServers, AllInOrder, AllFramesHandled, AllWornLate, AllFirstFailed, AllAreAnswered, AllWaitForNothing, AllValidClose, AllKept, AllOneMore, AllLearning, AllNothingLeft, AllFeedsHold, AllSkipsAreSent, AllFeedsAreOpened, AllFeedsBegin, AllFeedsOpen, AllFeedsEnd, AllContinuesAreAnswered, AllNothingKeptBack, AllOfFeedsIsSent, AllFeedsAreTold, AllBatchesAreOfFeeds, AllBatchesAreFull, AllTakesAreOfFeeds, AllIsSaid, AllFeedsAreRead, AllFeedsAreTheirs, AllFeedsAreAskedInTurn, AllRunNoOtherFeeds, AllFeedsEndWithTheirOwn, AllFaultyFeedsAreRefused, AllCrowdedFeedsAreRefused, AllNextFeedsAreRun, AllOpenFeedsAreTold, AllDeniedFeedsAreClosed};
+ghost use Rattle.reql_told.specs.Looks.{AllAreSeenAtTheirSlots, AllLookAtNoOthers, AllReadSlotsAreLookedAt, AllTermsGoOnInWhatWasSeen, AllValuesAreOfWhatWasSeen};
 ghost use Rattle.reql_told.specs.Refusing.{FirstRefusal, ShapeRefusal};
 
 /// Plans, as a session is told of them, take from no feed, close only what they opened and is open still, and tell of
@@ -35,6 +37,19 @@ pub fn changes_are_answered()
     ensures asked { AllNextFeedsAreRun }
     ensures opened { AllOpenFeedsAreTold }
     ensures denied { AllDeniedFeedsAreClosed }
+{}
+
+/// What is looked at for a body is the slots that its plan's term reads, by rising number, each once, as long as there is a table
+/// at each, and nothing else, whatever is found. When all are seen the term goes on in the world that has, for each of these slots,
+/// the table that was seen at the look at that very slot, and no other tables; so a body that commands nothing, and wants an
+/// answer, is answered by what its term gives over these tables, or by why it gives nothing.
+pub fn looks_are_of_the_term()
+    ensures slots { ReadSlotsRise }
+    ensures looks { AllReadSlotsAreLookedAt }
+    ensures others { AllLookAtNoOthers }
+    ensures seen { AllAreSeenAtTheirSlots }
+    ensures terms { AllTermsGoOnInWhatWasSeen }
+    ensures values { AllValuesAreOfWhatWasSeen }
 {}
 
 /// A START is refused by the first of its refusals before anything is looked at: that its token has something open, the
