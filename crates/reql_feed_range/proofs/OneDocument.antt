@@ -45,5 +45,5 @@ none_shown true [] e = refl
 none_shown true (v ∷ vs) e = absurd (omega (arith, e))
 none_shown false vs e = refl
 
-pub left_out : (s : RangeShape) (k d : Plain) → may_hold (source_of s.source) k ≡ false → [] ≡ shown_alone (shape_of s) (k, d)
+pub left_out : (s : RangeShape) (k d : Plain) → may_hold (source_of s.source) (k, d) ≡ false → [] ≡ shown_alone (shape_of s) (k, d)
 left_out s k d off = none_shown (is_good (shape_of s) (k, d)) (answered (shape_of s ((k, d) ∷ []))) (s.leaves_out (k, d) off)

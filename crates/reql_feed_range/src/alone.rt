@@ -151,13 +151,15 @@ fn showable(alloc: Global, answer: &Result<Items, Fault>) -> Result<Items, Memor
 }
 
 // What a shape gives of a document by itself, where that can be shown. Of one that its source leaves
-// out that is nothing, and costs a comparison of keys.
+// out that is nothing, and costs a comparison of its key, or its entries in the index of the request
+// and a comparison of each.
 #[tactic(auto, using(crate::proofs::OneDocument::left_out))]
 fn shown_alone(alloc: Global, shape: &RangeShape, key: &Datum, doc: &Datum) -> Result<Items, Memory>
     ensures { IfOk result (λ r. r
         ≡ shown_alone_of (shape_of shape.now) (plain key.now, plain doc.now)) }
 {
-    if !shape.source.may_hold(key) {
+    let is_read = shape.source.may_hold(alloc, key, doc)?;
+    if !is_read {
         return Ok(Items::new(alloc));
     }
     let table = holding(&shape.empty, key, doc)?;

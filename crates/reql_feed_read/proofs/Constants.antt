@@ -1,15 +1,16 @@
 -- The keys of GET_ALL, one argument after another, and the source of a shape by its first argument.
-use Rattle.std.proofs.Common.{◌≡◌, ℕ, ◌+◌, List, [], ◌∷◌, ◌++◌, drop, true, false, Ok, Err, refl, sym, ap, ◌∙◌, append_assoc, append-nil}
+use Rattle.std.proofs.Common.{◌≡◌, ℕ, ◌+◌, List, [], ◌∷◌, ◌++◌, drop, Bool, true, false, ◌||◌, Option, None, Ok, Err, refl, sym, ap, ◌∙◌, append_assoc, append-nil}
+use Rattle.std.specs.List.{list_any}
 use Rattle.reql_datum.specs.Answer.{Answer, ◌>>=◌}
 use Rattle.reql_datum.specs.Outcome.{Fails}
 use Rattle.reql_datum.specs.Plain.{Plain}
 use Rattle.reql_datum.specs.declared.fault.Fault.{Fault}
 use Rattle.reql_rules.specs.Lists.{Bytes, each}
 use Rattle.reql_term.specs.Form.{Form, forms_of}
-use Rattle.reql_feed_law.specs.Watched.{whole}
 use Rattle.reql_law.specs.Followed.{closed_value}
+use Rattle.reql_law.specs.Indexes.{Indexes}
 use Rattle.reql_feed_read.specs.Shapes.{given, is_slot}
-use Rattle.reql_feed_read.specs.Source.{Source, in_part, keys_or_all, keys_over, source_in, first_source}
+use Rattle.reql_feed_read.specs.Source.{Places, Source, holds, values_by, everything, keys_over, source_in, first_source}
 use Rattle.reql_feed_read.proofs.Choices.{fails_on}
 use Rattle.reql_feed_read.proofs.Gets.{arguments_are}
 
@@ -55,22 +56,30 @@ head_is g f gs hs e = cc
 no_more : {G : Type 0} (f : Form) (gs : List Form) → [] ≡ f ∷ gs → G
 no_more f gs e = absurd (cc (e))
 
-pub no_first : (fs : List Form) → fs ≡ [] → in_part whole ≡ keys_or_all (keys_over (forms_of fs))
+pub no_first : (fs : List Form) → fs ≡ [] → None ≡ keys_over (forms_of fs)
 no_first fs e = rw e refl
 
-pub off_slot : (fs : List Form) (f : Form) → fs ≡ f ∷ drop 1 fs → is_slot f ≡ false → in_part whole ≡ keys_or_all (keys_over (forms_of fs))
+pub off_slot : (fs : List Form) (f : Form) → fs ≡ f ∷ drop 1 fs → is_slot f ≡ false → None ≡ keys_over (forms_of fs)
 off_slot [] f e off = no_more f [] e
 off_slot (g ∷ gs) f e off = let h : is_slot g ≡ false = ap is_slot (head_is g f gs gs e) ∙ off in rw h refl
 
-pub on_slot : (fs : List Form) (f : Form) (s : Source) → fs ≡ f ∷ drop 1 fs → is_slot f ≡ true → s ≡ keys_or_all (given (each closed_value (drop 1 fs))) → s ≡ keys_or_all (keys_over (forms_of fs))
-on_slot [] f s e on is = no_more f [] e
-on_slot (g ∷ gs) f s e on is =
+pub on_slot : (fs : List Form) (f : Form) (o : Option (List Plain)) → fs ≡ f ∷ drop 1 fs → is_slot f ≡ true → o ≡ given (each closed_value (drop 1 fs)) → o ≡ keys_over (forms_of fs)
+on_slot [] f o e on is = no_more f [] e
+on_slot (g ∷ gs) f o e on is =
     let h : is_slot g ≡ true = ap is_slot (head_is g f gs gs e) ∙ on in
-    rw h (is ∙ ap (λ xs. keys_or_all (given (each closed_value xs))) (sym (arguments_are gs)))
+    rw h (is ∙ ap (λ xs. given (each closed_value xs)) (sym (arguments_are gs)))
 
-pub source_at : (key : Bytes) (fs : List Form) (f : Form) (s : Source) → fs ≡ f ∷ drop 1 fs → s ≡ source_in key f → s ≡ first_source key (forms_of fs)
-source_at key [] f s e is = no_more f [] e
-source_at key (g ∷ gs) f s e is = is ∙ ap (source_in key) (sym (head_is g f gs gs e))
+pub source_at : (key : Bytes) (indexes : Indexes) (fs : List Form) (f : Form) (s : Source) → fs ≡ f ∷ drop 1 fs → s ≡ source_in key indexes f → s ≡ first_source key indexes (forms_of fs)
+source_at key indexes [] f s e is = no_more f [] e
+source_at key indexes (g ∷ gs) f s e is = is ∙ ap (source_in key indexes) (sym (head_is g f gs gs e))
 
-pub source_none : (key : Bytes) (fs : List Form) → fs ≡ [] → in_part whole ≡ first_source key (forms_of fs)
-source_none key fs e = rw e refl
+pub source_none : (key : Bytes) (indexes : Indexes) (fs : List Form) → fs ≡ [] → everything ≡ first_source key indexes (forms_of fs)
+source_none key indexes fs e = rw e refl
+
+-- ---- the primary order, where a document has one entry
+pub one_value : (p : Places) (k d : Plain) → holds p k ≡ list_any (holds p) (values_by None (k, d))
+one_value p k d = alone (holds p k)
+  where
+    alone : (b : Bool) → b ≡ b || false
+    alone true = refl
+    alone false = refl

@@ -107,7 +107,7 @@ fn shape_on(
     let key = spec.key.copy()?;
     let term = spec.shape.copy()?;
     let empty = empty_with(alloc, index)?;
-    let source = read_source(alloc, &spec.key, spec.shape.term())?;
+    let source = read_source(alloc, &spec.key, index, spec.shape.term())?;
     Ok(RangeShape {
         key,
         term,

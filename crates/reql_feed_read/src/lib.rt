@@ -23,4 +23,4 @@ pub use follows::{Follows, read};
 pub use index::kept_index;
 pub use order::{Order, Part};
 pub use shape::RangeShape;
-pub use source::Source;
+pub use source::{Places, Source};

@@ -66,9 +66,9 @@ fn is_named(key: &Name, name: &Name, term: &Term) -> bool
     }
 }
 
-// Whether the index of BETWEEN, which without an option is the primary order, has this name.
+/// Whether the index of BETWEEN or GET_ALL, which without an option is the primary order, has this name.
 #[tactic(auto, using(crate::proofs::Parts::named_some, crate::proofs::Parts::named_none))]
-fn names_by(key: &Name, name: &Name, opts: &TermFields) -> bool
+pub(crate) fn names_by(key: &Name, name: &Name, opts: &TermFields) -> bool
     ensures { result ≡ names_by_of key.now name.now (index_in (named_of opts.now)) }
 {
     match opts.get("index") {

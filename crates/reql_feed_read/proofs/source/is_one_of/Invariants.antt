@@ -9,4 +9,4 @@ abbrev pub decreases-loop-other : goal.decreases-loop-other
 decreases-loop-other l = length l.keys - l.place
 
 abbrev pub invariant-loop-other : goal.invariant-loop-other
-invariant-loop-other l = list_any (λ j. is_eq (order j (plain l.key))) (drop l.place l.keys) ≡ list_any (λ j. is_eq (order j (plain l.key))) l.keys
+invariant-loop-other l = list_any (λ j. is_eq (order j (plain l.value))) (drop l.place l.keys) ≡ list_any (λ j. is_eq (order j (plain l.value))) l.keys
