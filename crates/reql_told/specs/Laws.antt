@@ -17,6 +17,7 @@ use Rattle.reql_plan_law.specs.Feeding.{Feeding}
 use Rattle.reql_plan_law.specs.Follows.{IsRead}
 use Rattle.reql_plan_law.specs.Texts.{too_many_cursors}
 use Rattle.reql_story.specs.Answering.{EachIsAnswered}
+use Rattle.reql_story.specs.Arms.{ArmsAreApart}
 use Rattle.reql_story.specs.Waiting.{NothingWasThere}
 use Rattle.reql_story.specs.Opened.{EachIsOpened}
 use Rattle.reql_story.specs.Beginning.{EachBegins}
@@ -186,3 +187,13 @@ AllTakesAreOfFeeds = (key : List ℕ) (limits : Limits) → printed.TakesAreOfFe
 
 abbrev pub AllIsSaid : Type 0
 AllIsSaid = (key : List ℕ) (limits : Limits) → printed.AllIsSaid (talk key limits)
+
+-- and of their arms, and what their Subscribes and Takes are answered
+abbrev pub AllArmsAreApart : Type 0
+AllArmsAreApart = (key : List ℕ) (limits : Limits) → ArmsAreApart (talk key limits)
+
+abbrev pub AllTakesArePlaced : Type 0
+AllTakesArePlaced = (key : List ℕ) (limits : Limits) → story.TakesArePlaced (talk key limits)
+
+abbrev pub AllSubscribesArePlaced : Type 0
+AllSubscribesArePlaced = (key : List ℕ) (limits : Limits) → story.SubscribesArePlaced (talk key limits)
