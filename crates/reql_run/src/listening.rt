@@ -6,7 +6,9 @@ ghost use Rattle.reql_core.specs.Core.{state_of};
 ghost use Rattle.reql_open_feed.specs.Open.{held_in};
 ghost use Rattle.reql_law.specs.Laws.{DocsAtStamp, StampCounts};
 ghost use Rattle.reql_law.specs.Terms.{PointsShowTheirTerms, RangesShowTheirTerms, LimitsShowTheirTerms};
-ghost use Rattle.reql_told.specs.Laws.{AllInOrder, AllFramesHandled, AllWornLate, AllFirstFailed, AllAreAnswered, AllWaitForNothing, AllValidClose, AllFeedsHold, AllSkipsAreSent, AllFeedsAreRead, AllFeedsAreTheirs, AllFeedsAreOpened, AllFeedsBegin, AllFeedsOpen, AllFeedsEnd, AllContinuesAreAnswered, AllNothingKeptBack, AllOfFeedsIsSent, AllFeedsAreTold, AllBatchesAreOfFeeds, AllBatchesAreFull, AllTakesAreOfFeeds, AllIsSaid, AllFeedsAreAskedInTurn, AllRunNoOtherFeeds, AllFeedsEndWithTheirOwn, AllFaultyFeedsAreRefused, AllCrowdedFeedsAreRefused, AllNextFeedsAreRun, AllOpenFeedsAreTold, AllDeniedFeedsAreClosed, BatchesAgree, InfoIsServers, PlansAreTold};
+ghost use Rattle.reql_plan_law.specs.Looks.{ReadSlotsRise};
+ghost use Rattle.reql_told.specs.Laws.{AllInOrder, AllFramesHandled, AllWornLate, AllFirstFailed, AllAreAnswered, AllWaitForNothing, AllValidClose, AllFeedsHold, AllSkipsAreSent, AllFeedsAreRead, AllFeedsAreTheirs, AllFeedsAreOpened, AllFeedsBegin, AllFeedsOpen, AllFeedsEnd, AllContinuesAreAnswered, AllNothingKeptBack, AllOfFeedsIsSent, AllFeedsAreTold, AllBatchesAreOfFeeds, AllBatchesAreFull, AllTakesAreOfFeeds, AllIsSaid, AllFeedsAreAskedInTurn, AllRunNoOtherFeeds, AllFeedsEndWithTheirOwn, AllFaultyFeedsAreRefused, AllCrowdedFeedsAreRefused, AllNextFeedsAreRun, AllOpenFeedsAreTold, AllDeniedFeedsAreClosed, AllArmsAreApart, AllTakesArePlaced, AllSubscribesArePlaced, BatchesAgree, InfoIsServers, PlansAreTold};
+ghost use Rattle.reql_told.specs.Looks.{AllAreSeenAtTheirSlots, AllLookAtNoOthers, AllReadSlotsAreLookedAt, AllTermsGoOnInWhatWasSeen, AllValuesAreOfWhatWasSeen};
 ghost use Rattle.reql_told.specs.Refusing.{FirstRefusal, ShapeRefusal};
 ghost use Rattle.reql_net.specs.Nets.{IsUntouched};
 ghost use Rattle.reql_serve.specs.Working.{outside};
@@ -22,8 +24,8 @@ use reql_outside::{Clock, Dice, Link};
 use reql_planner::QueryPlanner;
 use reql_serve::{Left, Many, WorkState, serve_many};
 use reql_told::{
-    changes_are_answered, feeds_are_read, feeds_are_told, first_refusal, plans_are_told,
-    server_is_told, sessions_hold,
+    answers_are_placed, changes_are_answered, feeds_are_read, feeds_are_told, first_refusal,
+    looks_are_of_the_term, plans_are_told, server_is_told, sessions_hold,
 };
 use reql_words::{Command, command_of};
 use std::alloc::Global;
@@ -230,11 +232,20 @@ where
     ensures next_feeds { AllNextFeedsAreRun }
     ensures open_feeds { AllOpenFeedsAreTold }
     ensures denied_feeds { AllDeniedFeedsAreClosed }
+    ensures read_slots { ReadSlotsRise }
+    ensures looks { AllReadSlotsAreLookedAt }
+    ensures no_other_looks { AllLookAtNoOthers }
+    ensures seen_slots { AllAreSeenAtTheirSlots }
+    ensures seen_terms { AllTermsGoOnInWhatWasSeen }
+    ensures seen_values { AllValuesAreOfWhatWasSeen }
     ensures documents { DocsAtStamp }
     ensures stamps { StampCounts }
     ensures points { PointsShowTheirTerms }
     ensures ranges { RangesShowTheirTerms }
     ensures limits { LimitsShowTheirTerms }
+    ensures arms_are_apart { AllArmsAreApart }
+    ensures takes_are_placed { AllTakesArePlaced }
+    ensures subscribes_are_placed { AllSubscribesArePlaced }
 {
     first_refusal();
     plans_are_told();
@@ -243,8 +254,10 @@ where
     feeds_are_read();
     feeds_are_told();
     changes_are_answered();
+    looks_are_of_the_term();
     table_laws();
     feeds_show_their_terms();
+    answers_are_placed();
     let Command::Listen {
         port,
         workers,

@@ -6,7 +6,9 @@ ghost use Rattle.reql_core.specs.Core.{state_of};
 ghost use Rattle.reql_open_feed.specs.Open.{held_in};
 ghost use Rattle.reql_law.specs.Laws.{DocsAtStamp, StampCounts};
 ghost use Rattle.reql_law.specs.Terms.{PointsShowTheirTerms, RangesShowTheirTerms, LimitsShowTheirTerms};
-ghost use Rattle.reql_told.specs.Laws.{AllInOrder, AllFramesHandled, AllWornLate, AllFirstFailed, AllAreAnswered, AllWaitForNothing, AllValidClose, AllFeedsHold, AllSkipsAreSent, AllFeedsAreRead, AllFeedsAreTheirs, AllFeedsAreOpened, AllFeedsBegin, AllFeedsOpen, AllFeedsEnd, AllContinuesAreAnswered, AllNothingKeptBack, AllOfFeedsIsSent, AllFeedsAreTold, AllBatchesAreOfFeeds, AllBatchesAreFull, AllTakesAreOfFeeds, AllIsSaid, AllFeedsAreAskedInTurn, AllRunNoOtherFeeds, AllFeedsEndWithTheirOwn, AllFaultyFeedsAreRefused, AllCrowdedFeedsAreRefused, AllNextFeedsAreRun, AllOpenFeedsAreTold, AllDeniedFeedsAreClosed, BatchesAgree, InfoIsServers, PlansAreTold};
+ghost use Rattle.reql_plan_law.specs.Looks.{ReadSlotsRise};
+ghost use Rattle.reql_told.specs.Laws.{AllInOrder, AllFramesHandled, AllWornLate, AllFirstFailed, AllAreAnswered, AllWaitForNothing, AllValidClose, AllFeedsHold, AllSkipsAreSent, AllFeedsAreRead, AllFeedsAreTheirs, AllFeedsAreOpened, AllFeedsBegin, AllFeedsOpen, AllFeedsEnd, AllContinuesAreAnswered, AllNothingKeptBack, AllOfFeedsIsSent, AllFeedsAreTold, AllBatchesAreOfFeeds, AllBatchesAreFull, AllTakesAreOfFeeds, AllIsSaid, AllFeedsAreAskedInTurn, AllRunNoOtherFeeds, AllFeedsEndWithTheirOwn, AllFaultyFeedsAreRefused, AllCrowdedFeedsAreRefused, AllNextFeedsAreRun, AllOpenFeedsAreTold, AllDeniedFeedsAreClosed, AllArmsAreApart, AllTakesArePlaced, AllSubscribesArePlaced, BatchesAgree, InfoIsServers, PlansAreTold};
+ghost use Rattle.reql_told.specs.Looks.{AllAreSeenAtTheirSlots, AllLookAtNoOthers, AllReadSlotsAreLookedAt, AllTermsGoOnInWhatWasSeen, AllValuesAreOfWhatWasSeen};
 ghost use Rattle.reql_told.specs.Refusing.{FirstRefusal, ShapeRefusal};
 ghost use Rattle.reql_run.specs.Running.{IsServed, Serves, Unserved};
 
@@ -18,8 +20,8 @@ use reql_outside::{Clock, Dice, Link};
 use reql_planner::QueryPlanner;
 use reql_serve::{Ended, serve_one};
 use reql_told::{
-    changes_are_answered, feeds_are_read, feeds_are_told, first_refusal, plans_are_told,
-    server_is_told, sessions_hold,
+    answers_are_placed, changes_are_answered, feeds_are_read, feeds_are_told, first_refusal,
+    looks_are_of_the_term, plans_are_told, server_is_told, sessions_hold,
 };
 use reql_words::{Command, command_of};
 use std::alloc::Global;
@@ -64,7 +66,8 @@ fn serve<R: Wait, L: Link + Drop, D: Dice + Drop, T: Clock + Drop>(
 /// one on a feed is else answered by items, by a fault that has a cause, or by the end that a STOP tells; a valid input,
 /// which is nothing or a greeting that is accepted and whole frames within the limit, is handled to its last frame, and the
 /// status is 0, unless a receive or a send failed, it took more turns than there are, or memory was wanted; every request
-/// is answered by its plan, or by the first of its refusals; a CHANGES opens the feeds of its own terms, in their order and
+/// is answered by its plan, or by the first of its refusals; a plan goes on over the tables that it saw at the slots that its
+/// term reads, each at the look at that slot; a CHANGES opens the feeds of its own terms, in their order and
 /// no others, or is answered by its refusal; and every feed that is open follows a document, a range or the first of an
 /// order, so that none stays silent since its term could not be read, is told its plan's first items and then what its
 /// Takes give, in order and nothing else, and folds to the value of its query up to where its answers are whole.
@@ -118,11 +121,20 @@ pub fn run<R: Wait, L: Link + Drop, D: Dice + Drop, T: Clock + Drop>(
     ensures next_feeds { AllNextFeedsAreRun }
     ensures open_feeds { AllOpenFeedsAreTold }
     ensures denied_feeds { AllDeniedFeedsAreClosed }
+    ensures read_slots { ReadSlotsRise }
+    ensures looks { AllReadSlotsAreLookedAt }
+    ensures no_other_looks { AllLookAtNoOthers }
+    ensures seen_slots { AllAreSeenAtTheirSlots }
+    ensures seen_terms { AllTermsGoOnInWhatWasSeen }
+    ensures seen_values { AllValuesAreOfWhatWasSeen }
     ensures documents { DocsAtStamp }
     ensures stamps { StampCounts }
     ensures points { PointsShowTheirTerms }
     ensures ranges { RangesShowTheirTerms }
     ensures limits { LimitsShowTheirTerms }
+    ensures arms_are_apart { AllArmsAreApart }
+    ensures takes_are_placed { AllTakesArePlaced }
+    ensures subscribes_are_placed { AllSubscribesArePlaced }
 {
     first_refusal();
     plans_are_told();
@@ -131,8 +143,10 @@ pub fn run<R: Wait, L: Link + Drop, D: Dice + Drop, T: Clock + Drop>(
     feeds_are_read();
     feeds_are_told();
     changes_are_answered();
+    looks_are_of_the_term();
     table_laws();
     feeds_show_their_terms();
+    answers_are_placed();
     let Command::Stdio { key, tables } = command_of(words) else {
         return Outcome {
             status: 2,
