@@ -3,7 +3,7 @@ ghost use Rattle.std.specs.Prelude.{◌<◌, length, map, string_bytes, IfOk, If
 ghost use Rattle.reql_words.specs.Words.{asks};
 ghost use Rattle.reql_core.specs.Core.{state_of};
 ghost use Rattle.reql_open_feed.specs.Open.{held_in};
-ghost use Rattle.reql_told.specs.Laws.{AllInOrder, AllFramesHandled, AllWornLate, AllFirstFailed, AllAreAnswered, AllWaitForNothing, AllValidClose, AllFeedsHold, AllSkipsAreSent, AllFeedsAreRead, AllFeedsAreTheirs, AllFeedsAreOpened, AllFeedsBegin, AllFeedsOpen, AllFeedsEnd, AllContinuesAreAnswered, AllNothingKeptBack, AllOfFeedsIsSent, AllFeedsAreTold, AllBatchesAreOfFeeds, AllBatchesAreFull, AllTakesAreOfFeeds, AllIsSaid};
+ghost use Rattle.reql_told.specs.Laws.{AllInOrder, AllFramesHandled, AllWornLate, AllFirstFailed, AllAreAnswered, AllWaitForNothing, AllValidClose, AllFeedsHold, AllSkipsAreSent, AllFeedsAreRead, AllFeedsAreTheirs, AllFeedsAreOpened, AllFeedsBegin, AllFeedsOpen, AllFeedsEnd, AllContinuesAreAnswered, AllNothingKeptBack, AllOfFeedsIsSent, AllFeedsAreTold, AllBatchesAreOfFeeds, AllBatchesAreFull, AllTakesAreOfFeeds, AllIsSaid, AllArmsAreApart, AllTakesArePlaced, AllSubscribesArePlaced};
 ghost use Rattle.reql_serve.specs.Many.{at_end};
 ghost use Rattle.reql_loading.specs.Loading.{IsServed, Loads, Prints, Reports, Unloaded};
 
@@ -17,7 +17,7 @@ use reql_outside::{Put, Sink};
 use reql_run::{Core, serve_posts};
 use reql_serve::Many;
 use reql_tally::tally_history;
-use reql_told::{feeds_are_read, feeds_are_told, sessions_hold};
+use reql_told::{answers_are_placed, feeds_are_read, feeds_are_told, sessions_hold};
 use reql_words::{Command, command_of};
 use std::alloc::Global;
 use std::sync::Wait;
@@ -102,9 +102,10 @@ fn print<K: Sink>(
 /// turns or want of memory; each frame that wants an answer is given just one, but for a CONTINUE that waits and after a
 /// failed send, and one waits only where its feed gave nothing in that very turn; a session ends with its first failed
 /// send; and every feed that it opened is its own term's, follows something, is told its plan's first items and then what
-/// its Takes give, and folds to the value of its query up to where its answers are whole. The clauses on refusals and
-/// plans, on which feeds a CHANGES asks for and what it comes to, and on the values of feeds stand beside `run` of
-/// `reql_run`.
+/// its Takes give, and folds to the value of its query up to where its answers are whole; no two of its open feeds share an
+/// arm; and each Take and each Subscribe is answered as its table says at its place. The clauses on refusals and plans, on
+/// what a plan looks at, on which feeds a CHANGES asks for and what it comes to, and on the values of feeds stand beside
+/// `run` of `reql_run`.
 pub fn load<R, K: Sink>(rt: &R, alloc: Global, words: &[String], out: &mut K) -> Loaded
 where
     R: Threads + Wait + Sync,
@@ -136,10 +137,14 @@ where
     ensures all_is_said { AllIsSaid }
     ensures feeds_are_read { AllFeedsAreRead }
     ensures feeds_are_theirs { AllFeedsAreTheirs }
+    ensures arms_are_apart { AllArmsAreApart }
+    ensures takes_are_placed { AllTakesArePlaced }
+    ensures subscribes_are_placed { AllSubscribesArePlaced }
 {
     sessions_hold();
     feeds_are_read();
     feeds_are_told();
+    answers_are_placed();
     let Command::Load { seed, size } = command_of(words) else {
         return Loaded {
             status: 2,
