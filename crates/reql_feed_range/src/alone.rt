@@ -151,8 +151,8 @@ fn showable(alloc: Global, answer: &Result<Items, Fault>) -> Result<Items, Memor
 }
 
 // What a shape gives of a document by itself, where that can be shown. Of one that its source leaves
-// out that is nothing, and costs a comparison of its key, or its entries in the index of the request
-// and a comparison of each.
+// out that is nothing, and costs comparisons of its key with the bounds or the keys that are asked for,
+// or the index's function on it and as many for each of its entries.
 #[tactic(auto, using(crate::proofs::OneDocument::left_out))]
 fn shown_alone(alloc: Global, shape: &RangeShape, key: &Datum, doc: &Datum) -> Result<Items, Memory>
     ensures { IfOk result (λ r. r

@@ -175,8 +175,8 @@ TakesArePlaced = (s : State) (before during later : History) (by : ℕ) (acts : 
 -- Each Subscribe of a user along a history is answered as the table at its place says: Gone exactly where the table was dropped; where it wasn't, that the history
 -- is full exactly where it has no room for one more entry; and where it has, that the index is missing exactly where nothing is kept of the request (`held`), that
 -- there are too many feeds exactly where it is kept and as many are open as may be, and else a feed, by the number of the place behind it, with the items of its
--- opening. Rules out a feed that is refused for its index while that is there, one that is opened without it, one that is refused while fewer are open, one more
--- than may be open, and one that is opened on a table that was dropped.
+-- opening. Rules out a feed that is refused for its index while something is kept of its request, one that is opened while nothing is, one that is refused while
+-- fewer stand in the table's list, one more than may, and one that is opened on a table that was dropped.
 abbrev pub AllSubscribed : State → History → List Done → Type 0
 AllSubscribed s history acts = AllByRecursion (subscribing.SubscribeIsPlaced (feeding s.most) s.table (map known_entry history)) (map known_act acts)
 

@@ -102,10 +102,10 @@ fn print<K: Sink>(
 /// turns or want of memory; each frame that wants an answer is given just one, but for a CONTINUE that waits and after a
 /// failed send, and one waits only where its feed gave nothing in that very turn; a session ends with its first failed
 /// send; and every feed that it opened is its own term's, follows something, is told its plan's first items and then what
-/// its Takes give, and folds to the value of its query up to where its answers are whole; no two of its open feeds share an
-/// arm; and each Take and each Subscribe is answered as its table says at its place. The clauses on refusals and plans, on
-/// what a plan looks at, on which feeds a CHANGES asks for and what it comes to, and on the values of feeds stand beside
-/// `run` of `reql_run`.
+/// its Takes give, and folds to the value of its query up to where its answers are whole; no open feed has
+/// an arm twice, and no two share one; and each Take and each Subscribe that is answered is answered as its table says at its
+/// place. The clauses on refusals and plans, on what a plan looks at, on what the server tells, on which feeds a CHANGES asks
+/// for and what it comes to, and on the values of feeds stand beside `run` of `reql_run`.
 pub fn load<R, K: Sink>(rt: &R, alloc: Global, words: &[String], out: &mut K) -> Loaded
 where
     R: Threads + Wait + Sync,

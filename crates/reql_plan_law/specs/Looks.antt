@@ -2,6 +2,7 @@
 -- the tables that were seen, each at the look at its own slot.
 use Rattle.std.specs.Prelude.{◌≡◌, ℕ, ℤ, nat_eq, nat_lt, List, [], ◌∷◌, ◌++◌, ◌⊎◌, map, min, Option, Some, None, is_some, Bool, true, false, not, ◌&&◌, ◌||◌, cond, Ok, Err}
 use Rattle.reql_datum.specs.Answer.{Answer, ◌>>=◌}
+use Rattle.reql_datum.specs.Members.{find}
 use Rattle.reql_datum.specs.declared.point.Point.{Point}
 use Rattle.reql_term.specs.Form.{Form, operation, Forms}
 use Rattle.reql_term.specs.Table.{task_of}
@@ -10,6 +11,8 @@ use Rattle.reql_term.specs.declared.role.Task.{Task}
 use Rattle.reql_term.specs.declared.role.Task.TheVariants as task
 use Rattle.reql_catalog.specs.Catalog.{Named}
 use Rattle.reql_naming.specs.Named.{resolved}
+use Rattle.reql_value.specs.Index.{plain_view}
+use Rattle.reql_value.specs.Meaning.{value}
 use Rattle.reql_value.specs.Shown as values
 use Rattle.reql_value.specs.Shown.{Shown}
 use Rattle.reql_value.specs.World.{World, View}
@@ -19,12 +22,11 @@ use Rattle.reql_plan_law.specs.declared.parts.Plan.{Plan}
 use Rattle.reql_plan_law.specs.declared.parts.Setting.{Setting}
 use Rattle.reql_plan_law.specs.Asked.{clock, is_clocked}
 use Rattle.reql_plan_law.specs.Course.{any_command, carried, fits_in, plan_next, sent}
-use Rattle.reql_plan_law.specs.Held.{Held, view_of}
+use Rattle.reql_plan_law.specs.Held.{Held, key_of, names_of, number_in}
 use Rattle.reql_plan_law.specs.Move.{look, Heard, names, looked, fault, Outcome, atom, grouped, sequence, stop}
 use Rattle.reql_plan_law.specs.Opens.{at_time}
 use Rattle.reql_plan_law.specs.Reads.{has_now, leaks, reads, read_slots}
 use Rattle.reql_plan_law.specs.Request.{request, Next, answered, moves, next}
-use Rattle.reql_plan_law.specs.Settled.{meant_of}
 use Rattle.reql_plan_law.specs.Texts.{too_many_cursors}
 
 -- ---- the looks, each with its answer, if it has one
@@ -107,7 +109,7 @@ EachIsSeenAtItsSlot = (p : Plan) (s : Setting) (hs : List Heard) (r : HasRead p 
 
 -- what its term goes on in: for each slot the table that was seen there, and no other tables
 abbrev pub table_at : Named → Sight → ℕ × View
-table_at ns x = (x.slot, view_of ns x.slot x.found.0 x.found.1)
+table_at ns x = (x.slot, plain_view (names_of ns x.slot).0 (number_in (find (names_of ns x.slot).0 ns.dbs)) (names_of ns x.slot).1 (key_of ns x.slot) x.found.0 x.found.1)
 
 abbrev pub world_at : Named → ℕ → List Sight → World
 world_at ns limit sights = record { tables = map (table_at ns) sights; databases = map (λ d. (d.0, d.1.number)) ns.dbs; array_limit = limit }
@@ -129,7 +131,8 @@ abbrev pub TermsGoOnInWhatWasSeen : Type 0
 TermsGoOnInWhatWasSeen = (p : Plan) (s : Setting) (hs : List Heard) (r : HasRead p hs)
     → plan_next p s hs ≡ sent s (next (request (carried (held_of p s hs r) r.reading.carried)) r.replies)
 
--- ---- where the term is no command, its value there is the answer, or why it has none
+-- ---- where the term reads alone (it is no command, no CHANGES, and no BRANCH with a command in an arm), its value there is the answer, or why it has none;
+-- or that too many cursors are open, where it is a sequence longer than a batch
 abbrev pub reads_by : Task → Forms → Bool
 reads_by task.Value fs = true
 reads_by task.Branch fs = not (any_command fs)
@@ -146,7 +149,7 @@ told_as e (Ok (values.groups gs)) = grouped gs
 told_as e (Ok (values.sequence ds)) = cond (fits_in e ds) (sequence ds) (stop (fault too_many_cursors))
 
 abbrev pub shown_in : World → Form → Answer Shown
-shown_in w f = meant_of w f >>= values.shown w
+shown_in w f = value f w [] >>= values.shown w
 
 abbrev pub ValuesAreOfWhatWasSeen : Type 0
 ValuesAreOfWhatWasSeen = (p : Plan) (s : Setting) (hs : List Heard) (r : HasRead p hs) → is_reading r.reading.carried ≡ true → s.noreply ≡ false

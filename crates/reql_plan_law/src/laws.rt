@@ -95,8 +95,9 @@ pub fn settled_means_the_same()
 /// A plan looks at the slots that its term reads, and at no others, whatever its moves are answered: once its names are heard,
 /// and the moment where its term asks for it, at one after another by rising number, each once, as long as there is a table at
 /// each. When it has seen them all, its term goes on in the world that has, for each of these slots, the table that was seen at
-/// the look at that very slot, and no other tables. So what a request that commands nothing is answered is what its term gives
-/// over these tables, or why it gives nothing.
+/// the look at that very slot, and no other tables. So a request that reads alone (no command, no CHANGES, no BRANCH with a
+/// command in an arm), and wants an answer, is answered by what its term gives over these tables, by why it gives nothing, or,
+/// where that is a sequence longer than a batch, by that too many cursors are open.
 pub fn looks_are_of_the_term()
     ensures slots { ReadSlotsRise }
     ensures looks { ReadSlotsAreLookedAt }

@@ -66,11 +66,13 @@ fn serve<R: Wait, L: Link + Drop, D: Dice + Drop, T: Clock + Drop>(
 /// one on a feed is else answered by items, by a fault that has a cause, or by the end that a STOP tells; a valid input,
 /// which is nothing or a greeting that is accepted and whole frames within the limit, is handled to its last frame, and the
 /// status is 0, unless a receive or a send failed, it took more turns than there are, or memory was wanted; every request
-/// is answered by its plan, or by the first of its refusals; a plan goes on over the tables that it saw at the slots that its
-/// term reads, each at the look at that slot; a CHANGES opens the feeds of its own terms, in their order and
-/// no others, or is answered by its refusal; and every feed that is open follows a document, a range or the first of an
-/// order, so that none stays silent since its term could not be read, is told its plan's first items and then what its
-/// Takes give, in order and nothing else, and folds to the value of its query up to where its answers are whole.
+/// is answered by its plan, or by the first of its refusals; a plan looks at no slots but those that its term reads, and goes
+/// on over the tables that it saw there, each at the look at its own slot; a CHANGES opens the feeds of its own terms, in
+/// their order and no others, or is answered by its refusal; every feed that is open follows a document, a range or the first
+/// of an order, so that none stays silent since its term could not be read, is told its plan's first items and then what its
+/// Takes give, in order and nothing else, and folds to the value of its query up to where its answers are whole; no open feed
+/// has an arm twice, and no two share one; and each Take and each Subscribe that is answered is answered as its table says at
+/// its place.
 pub fn run<R: Wait, L: Link + Drop, D: Dice + Drop, T: Clock + Drop>(
     rt: &R,
     alloc: Global,

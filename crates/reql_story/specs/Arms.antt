@@ -8,8 +8,8 @@ use Rattle.reql_story.specs.Explained.{DeskShare, Life, Explained}
 
 module _ {PL : Type 0} (k : Talk PL) where
   -- Along the events of an explained session, the arms of all feeds that are open at one time are apart, by their slots and numbers: no feed has an arm twice, and
-  -- no two feeds have one in common. So what a table queues for a feed, and a Take gives, is of one open feed of the session, and an Unsubscribe closes no other's.
-  -- (Feeds of two sessions are apart by their owners, and of one table by their numbers.)
+  -- no two feeds have one in common. So what a table queues for a feed in the books, and a Take gives, is of one of these feeds, and an Unsubscribe closes no other
+  -- of them. (Feeds of two desks are apart by their owners, and those of one table by their numbers.)
   abbrev pub ArmsAreApart : Type 0
   ArmsAreApart = (share : DeskShare) (life : Life) (x : Explained k share life) (before after : List Event) (m : Mach PL)
       → x.events ≡ before ++ after → Run k fresh before m → are_apart (all_arms m.books) ≡ true

@@ -201,15 +201,16 @@ module _ {PL : Type 0} (k : Talk PL) where
       → (slot feed stamp : ℕ) (after : List Event) (o : Opens seen share life slot feed stamp after)
       → SendsSkips (share.slots slot).start.most slot feed o.held (items_after (share.slots slot).start (seen.slots slot) o.held stamp) after
 
-  -- Each Take of an explained session is answered as the table of its slot says at its place, with the stamp that this has there; and a Subscribe with that stamp.
-  -- Of a feed that a request opened, SkipsAreSent says what waits at each of its Takes; so it is told Nothing exactly where nothing waits and the table isn't
+  -- Each Take of an explained session that is answered is answered as the table of its slot says at its place, with the stamp that this has there; and a Subscribe
+  -- with that stamp. Of a feed that a request opened, where tables began without feeds, SkipsAreSent says what waits at each of its Takes up to its Unsubscribe; so
+  -- it is told Nothing exactly where nothing waits and the table isn't
   -- shut, Gone exactly where nothing waits and it is, a batch exactly where something waits and the history has room for one more entry, and that the history is
   -- full exactly where something waits and it has none.
   abbrev pub TakesArePlaced : Type 0
   TakesArePlaced = (seen : DeskSeen) (share : DeskShare) (life : Life) (x : ExplainedBy k seen share life) (slot : ℕ)
       → AllPlaced (share.slots slot).start (seen.slots slot) (acts_on slot x.explained.events)
 
-  -- Each Subscribe of an explained session is answered as the table of its slot says at its place: Gone exactly where it was dropped; where it wasn't, that the
+  -- Each Subscribe of an explained session that is answered is answered as the table of its slot says at its place: Gone exactly where it was dropped; where it wasn't, that the
   -- history is full exactly where it has no room for one more entry; and where it has, that the index is missing exactly where nothing is kept of the request,
   -- that there are too many feeds exactly where it is kept and as many are open as may be, and else a feed.
   abbrev pub SubscribesArePlaced : Type 0

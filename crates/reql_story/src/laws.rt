@@ -156,8 +156,8 @@ pub fn arms_are_apart<F: Planning>()
     ensures { (f : F) → ArmsAreApart (F.talk f) }
 {}
 
-/// Each Take and each Subscribe of an explained session is answered as the table of its slot says at its place, with the stamp
-/// that this has there. A Take of an open feed is told Nothing only while its table isn't dropped, and Gone only when it was. A
+/// Each Take and each Subscribe of an explained session that is answered (neither is where memory is wanted) is answered as the
+/// table of its slot says at its place, with the stamp that this has there. A Take of an open feed is told Nothing only while its table isn't dropped, and Gone only when it was. A
 /// Subscribe is answered Gone exactly where its table was dropped; where it wasn't, and the history has room, that the index is
 /// missing exactly where nothing is kept of the request, that there are too many feeds exactly where it is kept and as many are
 /// open as may be, and else by a feed.

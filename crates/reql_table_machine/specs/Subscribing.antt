@@ -80,8 +80,9 @@ module _ {D J W N P M X K I F : Type 0} (m : Feeding D J W N P M X K I F) where
 
   -- Each Subscribe of a user along a history is answered as the table at its place says. No two of these answers may be given of one table and request, so each
   -- is given exactly where it may be: Gone where the table was dropped, that the index is missing where nothing is kept of the request, that there are too many
-  -- feeds where as many are open as may be, and else a feed, unless the history is full. Rules out a feed that is refused for its index while that is there, one
-  -- that is opened without it, one that is refused while fewer are open, one more than may be open, and one that is opened on a table that was dropped.
+  -- feeds where as many stand in the table's list as may be, and else a feed, unless the history is full. Rules out a feed that is refused for its index while
+  -- something is kept of its request, one that is opened while nothing is, one that is refused while fewer stand in the list, one more than may, and one that is
+  -- opened on a table that was dropped.
   abbrev pub SubscribesArePlaced : Type 0
   SubscribesArePlaced = (o : Table D J K I) (before during after : List (Recorded (Order (Cmd W N P)))) (by : ℕ)
       (acts : List (Act (Order (Cmd W N P)) (Reply (Said M I)) (Unit {0}) (Look (D × J))))

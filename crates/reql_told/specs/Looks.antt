@@ -45,7 +45,8 @@ abbrev pub AllLookAtNoOthers : Type 0
 AllLookAtNoOthers = (key : List ℕ) (limits : Limits) (body : List ℕ) (noreply : Bool) (plan : Plan) (quiet : Bool) (count : ℕ) (found : List Found)
     → (talk key limits).asked body ≡ Start noreply plan → (looks_along ((talk key limits).next plan quiet count) found ≡ []) ⊎ Reads limits plan quiet count found
 
--- Each table was seen at the look at its own slot, and the term goes on over just these.
+-- Where tables were found, they were found at the looks at their own slots, in turn (that a look finds its own slot is the session machine's: its
+-- Step), and the term goes on over just these.
 abbrev pub AllAreSeenAtTheirSlots : Type 0
 AllAreSeenAtTheirSlots = (key : List ℕ) (limits : Limits) (body : List ℕ) (noreply : Bool) (plan : Plan) (quiet : Bool) (count : ℕ) (found : List Found)
     → (talk key limits).asked body ≡ Start noreply plan → (r : HasFound limits plan quiet count found)
@@ -56,7 +57,7 @@ AllTermsGoOnInWhatWasSeen = (key : List ℕ) (limits : Limits) (body : List ℕ)
     → (talk key limits).asked body ≡ Start noreply plan → (r : HasFound limits plan quiet count found)
     → (talk key limits).next plan quiet count found ≡ move_of (sent (setting_of limits quiet count) (next (request (carried (held_by limits plan quiet count found r) r.reading.carried)) r.replies))
 
--- Where it is no command and an answer is wanted, its value there is the answer, or why it has none.
+-- Where it reads alone and an answer is wanted, its value there is the answer, or why it has none; or that too many cursors are open.
 abbrev pub AllValuesAreOfWhatWasSeen : Type 0
 AllValuesAreOfWhatWasSeen = (key : List ℕ) (limits : Limits) (body : List ℕ) (noreply : Bool) (plan : Plan) (quiet : Bool) (count : ℕ) (found : List Found)
     → (talk key limits).asked body ≡ Start noreply plan → (r : HasFound limits plan quiet count found) → is_reading r.reading.carried ≡ true → quiet ≡ false

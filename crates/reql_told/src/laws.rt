@@ -41,8 +41,9 @@ pub fn changes_are_answered()
 
 /// What is looked at for a body is the slots that its plan's term reads, by rising number, each once, as long as there is a table
 /// at each, and nothing else, whatever is found. When all are seen the term goes on in the world that has, for each of these slots,
-/// the table that was seen at the look at that very slot, and no other tables; so a body that commands nothing, and wants an
-/// answer, is answered by what its term gives over these tables, or by why it gives nothing.
+/// the table that was seen at the look at that very slot, and no other tables; so a body that reads alone (no command, no
+/// CHANGES, no BRANCH with a command in an arm), and wants an answer, is answered by what its term gives over these tables, by
+/// why it gives nothing, or, where that is a sequence longer than a batch, by that too many cursors are open.
 pub fn looks_are_of_the_term()
     ensures slots { ReadSlotsRise }
     ensures looks { AllReadSlotsAreLookedAt }
