@@ -1,6 +1,7 @@
 pub mod Replays
 pub mod Folding
 pub mod Weaves
+pub mod Endings
 pub mod Numbers
 pub mod Stays
 pub mod Worked

@@ -23,12 +23,14 @@ use Rattle.reql_table_machine.specs.Laws.{drops_from}
 use Rattle.reql_table_machine.specs.Fed.{Taking}
 use Rattle.reql_table_machine.specs.Telling as telling
 use Rattle.reql_table_machine.specs.Subscribing as subscribing
+use Rattle.reql_table_machine.specs.Ending as ending
 use Rattle.reql_table_machine.specs.declared.command.Cmd.{Cmd as Known}
 use Rattle.reql_table_machine.specs.declared.command.Order.{Order as Asked}
 use Rattle.reql_law.specs.Indexes.{Indexes, IndexCmd}
-use Rattle.reql_law.specs.Machine.{State, Seen, known_order, known_entry, machine, after, reply, is_recorded}
+use Rattle.reql_law.specs.Machine.{State, Seen, known_cmd, known_order, known_entry, machine, after, reply, is_recorded}
 use Rattle.reql_law.specs.Replies.{Answered}
 use Rattle.reql_law.specs.Table.{DocumentTable, Held, feeding, at_key}
+use Rattle.reql_law.specs.declared.command.Cmd.TheVariants as cmds
 use Rattle.reql_law.specs.declared.command.FeedSpec.{FeedSpec}
 use Rattle.reql_law.specs.declared.command.Order.{Order}
 
@@ -188,3 +190,15 @@ SubscribesArePlaced = (s : State) (before during later : History) (by : ℕ) (ac
 -- the numbers of all feeds that are opened along a history, whoever opens them, rise: rules out a number that two feeds of a table are given
 abbrev pub NumbersRise : Type 0
 NumbersRise = (s : State) (history : History) → subscribing.RiseFrom s.table.place (subscribing.numbers_from (feeding s.most) s.table (map known_entry history))
+
+-- After each command the feeds that were open on a table are open still, in their order, each with its owner, number, request and opening, but where an
+-- Unsubscribe is answered Closed, which takes out just the feed of that owner and number; and none is new but where a Subscribe is answered by a feed, which is
+-- the last. Rules out an Unsubscribe that closes nothing, or another user's feed, a feed that is told of and not opened, and a write or a drop that ends a feed.
+abbrev pub FeedsComeAndGo : Type 0
+FeedsComeAndGo = (s : State) (by : ℕ) (order : Order) → ending.LeavesOpen (feeding s.most) s.table (after s by order).table by (known_cmd order.cmd) (reply s by order).said
+
+-- An Unsubscribe is answered Closed exactly where its owner has the feed open and the history has room for one more entry; where the feed isn't open, Gone exactly
+-- where the table was dropped, and else that it is unknown; and that the history is full, where it has no room, in place of Closed and of unknown. Rules out a
+-- feed that can't be closed once its table was dropped.
+abbrev pub UnsubscribesAreTold : Type 0
+UnsubscribesAreTold = (s : State) (by feed : ℕ) (order : Order) → order.cmd ≡ cmds.Unsubscribe feed → ending.MayClose (feeding s.most) s.table by feed (reply s by order).said

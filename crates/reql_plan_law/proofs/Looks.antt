@@ -27,8 +27,8 @@ use Rattle.reql_plan_law.specs.declared.parts.Plan.{Plan}
 use Rattle.reql_plan_law.specs.declared.parts.Setting.{Setting}
 use Rattle.reql_plan_law.specs.Asked.{clock, is_clocked, read_from}
 use Rattle.reql_plan_law.specs.Course.{seen_at, looks, fits_in, shown_as, shown, any_command, by_task, carried, branched, held, read, timed, at_moment, course, sent}
-use Rattle.reql_plan_law.specs.Held.{Held, Read, nothing_read, with_view}
-use Rattle.reql_plan_law.specs.Looks.{look_in, looks_along, has_slot, is_rising, ReadSlotsRise, Reading, in_turn, ReadSlotsAreLookedAt, NoOthersAreLookedAt, Sight, HasRead, EachIsSeenAtItsSlot, table_at, point_at, held_of, TermsGoOnInWhatWasSeen, reads_by, is_reading, told_as, shown_in, ValuesAreOfWhatWasSeen}
+use Rattle.reql_plan_law.specs.Held.{Held, Read, nothing_read, with_view, dropped}
+use Rattle.reql_plan_law.specs.Looks.{look_in, looks_along, has_slot, is_rising, ReadSlotsRise, Reading, in_turn, ReadSlotsAreLookedAt, NoOthersAreLookedAt, Sight, HasRead, EachIsSeenAtItsSlot, table_at, point_at, held_of, TermsGoOnInWhatWasSeen, DroppedTablesAreTold, reads_by, is_reading, told_as, shown_in, ValuesAreOfWhatWasSeen}
 use Rattle.reql_plan_law.specs.Move.{Ask, look_names, tell, look, run, change_names, roll, Heard, names, told, looked, ran, changed, rolled, fault, Outcome, sequence, stop}
 use Rattle.reql_plan_law.specs.Opens.{at_time}
 use Rattle.reql_plan_law.specs.Reads.{has_now, leaks, now_rule, reads, read_slots, rising, with_slot}
@@ -327,6 +327,28 @@ goes_on p s hs r =
 
 pub terms_go_on_in_what_was_seen : TermsGoOnInWhatWasSeen
 terms_go_on_in_what_was_seen p s hs r = ap (sent s) (goes_on p s hs r)
+
+-- ---- a table that was dropped
+module _ (ns : Named) (on : Read → Request) (slot : ℕ) (unseen : List ℕ) (at : Seen) (replies : List Heard) (none : at.view ≡ None) where
+  is_missed : (r : Read) (xs : List Sight) → next (looks ns r (slots_of xs ++ slot ∷ unseen) on) (heard_in xs ++ looked at ∷ replies) ≡ answered (stop (fault (dropped ns slot)))
+  is_missed r [] = ap (λ o. next (seen_at ns r slot at o (λ s. looks ns s unseen on)) replies) none
+  is_missed r (x ∷ xs) =
+      ap (λ o. next (seen_at ns r x.slot x.at o (λ s. looks ns s (slots_of xs ++ slot ∷ unseen) on)) (heard_in xs ++ looked at ∷ replies)) x.there
+      ∙ is_missed (with_view ns r x.slot x.at x.found) xs
+
+pub dropped_tables_are_told : DroppedTablesAreTold
+dropped_tables_are_told p s hs r =
+    let ns : Named = r.reading.known in
+    let g : Form = r.reading.carried in
+    let gs : List Heard = clock r.reading.moment ++ r.reading.rest in
+    ap (sent s) (
+    ap (next (request (course p s))) r.reading.heard
+    ∙ resolved_on next (λ q on h gs none. refl) p s ns r.reading.term gs r.reading.looked_up r.reading.free
+    ∙ clocked_on next (λ q on h gs none. refl) p s ns r.reading.term g r.reading.rest (has_now r.reading.term) r.reading.moment r.reading.clocked r.reading.at_moment
+    ∙ ap (next (read p s ns g ends)) r.heard
+    ∙ ap (λ slots. next (looks ns nothing_read slots (λ x. carried (held p s ns x) g ends)) (heard_in r.sights ++ looked r.at ∷ r.replies)) (sym r.slots)
+    ∙ is_missed ns (λ x. carried (held p s ns x) g ends) r.slot r.unseen r.at r.replies r.none nothing_read r.sights
+    )
 
 -- ---- a value
 module _ (e : Held) (hs : List Heard) where

@@ -22,8 +22,8 @@ use Rattle.reql_plan_law.specs.declared.parts.Plan.{Plan}
 use Rattle.reql_plan_law.specs.declared.parts.Setting.{Setting}
 use Rattle.reql_plan_law.specs.Asked.{clock, is_clocked}
 use Rattle.reql_plan_law.specs.Course.{any_command, carried, fits_in, plan_next, sent}
-use Rattle.reql_plan_law.specs.Held.{Held, key_of, names_of, number_in}
-use Rattle.reql_plan_law.specs.Move.{look, Heard, names, looked, fault, Outcome, atom, grouped, sequence, stop}
+use Rattle.reql_plan_law.specs.Held.{Held, key_of, names_of, number_in, dropped}
+use Rattle.reql_plan_law.specs.Move.{look, Heard, names, looked, fault, Outcome, atom, grouped, sequence, stop, unsent}
 use Rattle.reql_plan_law.specs.Opens.{at_time}
 use Rattle.reql_plan_law.specs.Reads.{has_now, leaks, reads, read_slots}
 use Rattle.reql_plan_law.specs.Request.{request, Next, answered, moves, next}
@@ -130,6 +130,23 @@ held_of p s hs r = record {
 abbrev pub TermsGoOnInWhatWasSeen : Type 0
 TermsGoOnInWhatWasSeen = (p : Plan) (s : Setting) (hs : List Heard) (r : HasRead p hs)
     → plan_next p s hs ≡ sent s (next (request (carried (held_of p s hs r) r.reading.carried)) r.replies)
+
+-- ---- a plan that has seen tables at the first of the slots that its term reads, and none at the next
+pub record Misses (p : Plan) (hs : List Heard) : Type 0 where
+  pub reading : Reading p hs
+  pub sights : List Sight
+  pub slot : ℕ
+  pub unseen : List ℕ
+  pub slots : map (λ (x : Sight). x.slot) sights ++ slot ∷ unseen ≡ read_slots reading.carried
+  pub at : Seen
+  pub none : at.view ≡ None
+  pub replies : List Heard
+  pub heard : reading.rest ≡ map (λ (x : Sight). looked x.at) sights ++ looked at ∷ replies
+
+-- Whatever its term is, it is told that the table of this slot was dropped, by the names that were heard. Rules out a term that goes on without it, and a fault
+-- that names another table.
+abbrev pub DroppedTablesAreTold : Type 0
+DroppedTablesAreTold = (p : Plan) (s : Setting) (hs : List Heard) (r : Misses p hs) → plan_next p s hs ≡ answered (cond s.noreply unsent (stop (fault (dropped r.reading.known r.slot))))
 
 -- ---- where the term reads alone (it is no command, no CHANGES, and no BRANCH with a command in an arm), its value there is the answer, or why it has none;
 -- or that too many cursors are open, where it is a sequence longer than a batch

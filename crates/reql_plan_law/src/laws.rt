@@ -2,7 +2,7 @@
 ghost use Rattle.reql_plan_law.specs.Answering.{CrowdedFeedsAreRefused, DeniedFeedsAreClosed, FaultyFeedsAreRefused, NextFeedIsAsked, OpenFeedsAreTold};
 ghost use Rattle.reql_plan_law.specs.Asked.{EachIsOfItsTerm, FeedsAreAskedInTurn, FeedsEndWithTheirOwn, NoOtherFeedsAreAsked};
 ghost use Rattle.reql_plan_law.specs.Follows.{FeedsAreRead, LimitsAreRead, PointsAreRead, RangesAreRead};
-ghost use Rattle.reql_plan_law.specs.Looks.{EachIsSeenAtItsSlot, NoOthersAreLookedAt, ReadSlotsAreLookedAt, ReadSlotsRise, TermsGoOnInWhatWasSeen, ValuesAreOfWhatWasSeen};
+ghost use Rattle.reql_plan_law.specs.Looks.{DroppedTablesAreTold, EachIsSeenAtItsSlot, NoOthersAreLookedAt, ReadSlotsAreLookedAt, ReadSlotsRise, TermsGoOnInWhatWasSeen, ValuesAreOfWhatWasSeen};
 ghost use Rattle.reql_plan_law.specs.Minds.{PlansMind, PlansMindEachStep, UnsentOnlyWithNoreply};
 ghost use Rattle.reql_plan_law.specs.Opens.{AskedFeedsAreRead, PlannedFeedsAreRead};
 ghost use Rattle.reql_plan_law.specs.Settling.{FeedsMeanTheSame, SettledMeansTheSame};
@@ -97,7 +97,8 @@ pub fn settled_means_the_same()
 /// each. When it has seen them all, its term goes on in the world that has, for each of these slots, the table that was seen at
 /// the look at that very slot, and no other tables. So a request that reads alone (no command, no CHANGES, no BRANCH with a
 /// command in an arm), and wants an answer, is answered by what its term gives over these tables, by why it gives nothing, or,
-/// where that is a sequence longer than a batch, by that too many cursors are open.
+/// where that is a sequence longer than a batch, by that too many cursors are open. Where it sees no table at one of them, the
+/// answer to any request that wants one is that the table of this slot was dropped, and nothing else is done.
 pub fn looks_are_of_the_term()
     ensures slots { ReadSlotsRise }
     ensures looks { ReadSlotsAreLookedAt }
@@ -105,4 +106,5 @@ pub fn looks_are_of_the_term()
     ensures seen { EachIsSeenAtItsSlot }
     ensures terms { TermsGoOnInWhatWasSeen }
     ensures values { ValuesAreOfWhatWasSeen }
+    ensures dropped { DroppedTablesAreTold }
 {}

@@ -4,11 +4,11 @@ ghost use Rattle.std.specs.List.{All};
 ghost use Rattle.reql_words.specs.Words.{asks, named, Listen};
 ghost use Rattle.reql_core.specs.Core.{state_of};
 ghost use Rattle.reql_open_feed.specs.Open.{held_in};
-ghost use Rattle.reql_law.specs.Laws.{DocsAtStamp, StampCounts};
+ghost use Rattle.reql_law.specs.Laws.{DocsAtStamp, StampCounts, FeedsComeAndGo, UnsubscribesAreTold};
 ghost use Rattle.reql_law.specs.Terms.{PointsShowTheirTerms, RangesShowTheirTerms, LimitsShowTheirTerms};
 ghost use Rattle.reql_plan_law.specs.Looks.{ReadSlotsRise};
 ghost use Rattle.reql_told.specs.Laws.{AllInOrder, AllFramesHandled, AllWornLate, AllFirstFailed, AllAreAnswered, AllWaitForNothing, AllValidClose, AllFeedsHold, AllSkipsAreSent, AllFeedsAreRead, AllFeedsAreTheirs, AllFeedsAreOpened, AllFeedsBegin, AllFeedsOpen, AllFeedsEnd, AllContinuesAreAnswered, AllNothingKeptBack, AllOfFeedsIsSent, AllFeedsAreTold, AllBatchesAreOfFeeds, AllBatchesAreFull, AllTakesAreOfFeeds, AllIsSaid, AllFeedsAreAskedInTurn, AllRunNoOtherFeeds, AllFeedsEndWithTheirOwn, AllFaultyFeedsAreRefused, AllCrowdedFeedsAreRefused, AllNextFeedsAreRun, AllOpenFeedsAreTold, AllDeniedFeedsAreClosed, AllArmsAreApart, AllTakesArePlaced, AllSubscribesArePlaced, BatchesAgree, InfoIsServers, PlansAreTold};
-ghost use Rattle.reql_told.specs.Looks.{AllAreSeenAtTheirSlots, AllLookAtNoOthers, AllReadSlotsAreLookedAt, AllTermsGoOnInWhatWasSeen, AllValuesAreOfWhatWasSeen};
+ghost use Rattle.reql_told.specs.Looks.{AllAreSeenAtTheirSlots, AllDroppedTablesAreTold, AllLookAtNoOthers, AllReadSlotsAreLookedAt, AllTermsGoOnInWhatWasSeen, AllValuesAreOfWhatWasSeen};
 ghost use Rattle.reql_told.specs.Refusing.{FirstRefusal, ShapeRefusal};
 ghost use Rattle.reql_net.specs.Nets.{IsUntouched};
 ghost use Rattle.reql_serve.specs.Working.{outside};
@@ -238,8 +238,11 @@ where
     ensures seen_slots { AllAreSeenAtTheirSlots }
     ensures seen_terms { AllTermsGoOnInWhatWasSeen }
     ensures seen_values { AllValuesAreOfWhatWasSeen }
+    ensures dropped_tables { AllDroppedTablesAreTold }
     ensures documents { DocsAtStamp }
     ensures stamps { StampCounts }
+    ensures feeds_come_and_go { FeedsComeAndGo }
+    ensures unsubscribes_are_told { UnsubscribesAreTold }
     ensures points { PointsShowTheirTerms }
     ensures ranges { RangesShowTheirTerms }
     ensures limits { LimitsShowTheirTerms }

@@ -12,4 +12,5 @@ pub mod Known
 pub mod Telling
 pub mod Placing
 pub mod Subscribing
+pub mod Ending
 pub mod Shutting

@@ -1,12 +1,12 @@
 -- What a Subscribe is answered at its place.
-use Rattle.std.proofs.Common.{◌≡◌, ◌≤◌, ◌<◌, ℕ, suc, ◌-◌, ◌^◌, true, false, cond, ◌||◌, List, [], ◌∷◌, ◌++◌, length, take, Option, Some, None, refl, sym, ap, subst, ◌∙◌, arith, append_assoc}
+use Rattle.std.proofs.Common.{◌≡◌, ℕ, suc, ◌-◌, ◌^◌, false, cond, ◌||◌, List, [], ◌∷◌, ◌++◌, length, take, Option, Some, None, refl, sym, ap, subst, ◌∙◌, append_assoc}
 use Rattle.std.specs.Prelude.{nat_lt}
 use Rattle.std.proofs.lemmas.List.{take-append-le}
 use Rattle.std.proofs.lemmas.Bool.{ltb-true, ltb-false}
 use Rattle.reql_table_machine.specs.Feeding.{Feeding}
-use Rattle.reql_table_machine.specs.Feeds.{Table, new_feed, opened_in, opens, if_room, effect, one_more, answer, reply_to_cmd, table_machine}
+use Rattle.reql_table_machine.specs.Feeds.{Table, new_feed, opened_in, opens, if_room, one_more, answer, reply_to_cmd, table_machine}
 use Rattle.reql_table_machine.specs.Telling.{HasRoom}
-use Rattle.reql_table_machine.specs.Subscribing.{MayOpen, IsFull, MaySubscribe, CmdIsToldSo, SubscribeIsPlaced, SubscribesArePlaced}
+use Rattle.reql_table_machine.specs.Subscribing.{MaySubscribe, CmdIsToldSo, SubscribeIsPlaced, SubscribesArePlaced}
 use Rattle.reql_table_machine.specs.declared.command.Cmd.{Cmd}
 use Rattle.reql_table_machine.specs.declared.command.Cmd.TheVariants as cmds
 use Rattle.reql_table_machine.specs.declared.command.Order.{Order}

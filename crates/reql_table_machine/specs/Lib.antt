@@ -5,5 +5,6 @@ pub mod Laws
 pub mod Skips
 pub mod Telling
 pub mod Subscribing
+pub mod Ending
 pub mod Sample
 pub mod Worked

@@ -4,6 +4,7 @@ ghost use Rattle.reql_table_machine.specs.Laws.{RefusedStays, DocsAtStamp, Later
 ghost use Rattle.reql_table_machine.specs.Skips.{OldestAreSkipped, SkipsCount, NothingIsSkipped, SkipsOfFullQueues, SkipsBetweenTakes};
 ghost use Rattle.reql_table_machine.specs.Telling.{TakesTellSkips, TakesLieInOrder, TakesArePlaced};
 ghost use Rattle.reql_table_machine.specs.Subscribing.{NumbersRise, SubscribesArePlaced};
+ghost use Rattle.reql_table_machine.specs.Ending.{FeedsComeAndGo, UnsubscribesAreTold};
 ghost use Rattle.reql_table_machine.specs.Sample.{one_number, Good, May};
 
 /// What a table's writes and feeds mean.
@@ -92,6 +93,17 @@ pub fn subscribes_are_told<F: Meaning>()
 /// table are ever given one number, whoever opens them.
 pub fn numbers_rise<F: Meaning>()
     ensures { NumbersRise F.feeding }
+{}
+
+/// After each command the feeds of a table that were open are open still, in their order, each with its
+/// owner, number, request and opening, but where an Unsubscribe is answered Closed, which ends just the
+/// feed of that owner and number; and none is new but where a Subscribe is answered by a feed, which is the
+/// last. An Unsubscribe is answered Closed exactly where the feed is open and the history has room for one
+/// more entry. Where the feed isn't open, the answer is Gone exactly where the table was dropped, and else
+/// that the feed is unknown, or where the history has no room that it is full.
+pub fn feeds_come_and_go<F: Meaning>()
+    ensures feeds { FeedsComeAndGo F.feeding }
+    ensures closed { UnsubscribesAreTold F.feeding }
 {}
 
 /// The laws of a kind of feed can be met: the feeds of a table of one number meet them.

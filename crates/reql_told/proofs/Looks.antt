@@ -6,7 +6,7 @@ use Rattle.reql_plan_law.specs.Move as plans
 use Rattle.reql_plan_law.specs.Request as requests
 use Rattle.reql_plan_law.proofs.Looks as of_plan
 use Rattle.reql_story.specs.Requests.{Found}
-use Rattle.reql_told.specs.Looks.{look_in, looks_along, AllReadSlotsAreLookedAt, AllLookAtNoOthers, AllAreSeenAtTheirSlots, AllTermsGoOnInWhatWasSeen, AllValuesAreOfWhatWasSeen}
+use Rattle.reql_told.specs.Looks.{look_in, looks_along, AllReadSlotsAreLookedAt, AllLookAtNoOthers, AllAreSeenAtTheirSlots, AllTermsGoOnInWhatWasSeen, AllDroppedTablesAreTold, AllValuesAreOfWhatWasSeen}
 use Rattle.reql_told.specs.Told.{heard_of, move_of, setting_of}
 
 look_of : (x : requests.Next) (h : Option plans.Heard) → look_in (move_of x) h ≡ of_plans.look_in x h
@@ -45,3 +45,6 @@ all_terms_go_on_in_what_was_seen key limits body noreply plan quiet count found 
 pub all_values_are_of_what_was_seen : AllValuesAreOfWhatWasSeen
 all_values_are_of_what_was_seen key limits body noreply plan quiet count found is r reads wanted =
     ap move_of (of_plan.values_are_of_what_was_seen plan (setting_of limits quiet count) (map heard_of found) r reads wanted)
+
+pub all_dropped_tables_are_told : AllDroppedTablesAreTold
+all_dropped_tables_are_told key limits body noreply plan quiet count found is r = ap move_of (of_plan.dropped_tables_are_told plan (setting_of limits quiet count) (map heard_of found) r)

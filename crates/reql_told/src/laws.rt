@@ -1,7 +1,7 @@
 // Laws of sessions that plan ReQL.
 ghost use Rattle.reql_plan_law.specs.Looks.{ReadSlotsRise};
 ghost use Rattle.reql_told.specs.Laws.{PlansAreTold, BatchesAgree, InfoIsServers, AllInOrder, AllFramesHandled, AllWornLate, AllFirstFailed, AllAreAnswered, AllWaitForNothing, AllValidClose, AllKept, AllOneMore, AllLearning, AllNothingLeft, AllFeedsHold, AllSkipsAreSent, AllFeedsAreOpened, AllFeedsBegin, AllFeedsOpen, AllFeedsEnd, AllContinuesAreAnswered, AllNothingKeptBack, AllOfFeedsIsSent, AllFeedsAreTold, AllBatchesAreOfFeeds, AllBatchesAreFull, AllTakesAreOfFeeds, AllIsSaid, AllFeedsAreRead, AllFeedsAreTheirs, AllFeedsAreAskedInTurn, AllRunNoOtherFeeds, AllFeedsEndWithTheirOwn, AllFaultyFeedsAreRefused, AllCrowdedFeedsAreRefused, AllNextFeedsAreRun, AllOpenFeedsAreTold, AllDeniedFeedsAreClosed, AllArmsAreApart, AllTakesArePlaced, AllSubscribesArePlaced};
-ghost use Rattle.reql_told.specs.Looks.{AllAreSeenAtTheirSlots, AllLookAtNoOthers, AllReadSlotsAreLookedAt, AllTermsGoOnInWhatWasSeen, AllValuesAreOfWhatWasSeen};
+ghost use Rattle.reql_told.specs.Looks.{AllAreSeenAtTheirSlots, AllDroppedTablesAreTold, AllLookAtNoOthers, AllReadSlotsAreLookedAt, AllTermsGoOnInWhatWasSeen, AllValuesAreOfWhatWasSeen};
 ghost use Rattle.reql_told.specs.Refusing.{FirstRefusal, ShapeRefusal};
 
 /// Plans, as a session is told of them, take from no feed, close only what they opened and is open still, and tell of
@@ -43,7 +43,8 @@ pub fn changes_are_answered()
 /// at each, and nothing else, whatever is found. When all are seen the term goes on in the world that has, for each of these slots,
 /// the table that was seen at the look at that very slot, and no other tables; so a body that reads alone (no command, no
 /// CHANGES, no BRANCH with a command in an arm), and wants an answer, is answered by what its term gives over these tables, by
-/// why it gives nothing, or, where that is a sequence longer than a batch, by that too many cursors are open.
+/// why it gives nothing, or, where that is a sequence longer than a batch, by that too many cursors are open. Where there is no
+/// table at one of them, a body that wants an answer is told that the table of this slot was dropped, and nothing else is done.
 pub fn looks_are_of_the_term()
     ensures slots { ReadSlotsRise }
     ensures looks { AllReadSlotsAreLookedAt }
@@ -51,6 +52,7 @@ pub fn looks_are_of_the_term()
     ensures seen { AllAreSeenAtTheirSlots }
     ensures terms { AllTermsGoOnInWhatWasSeen }
     ensures values { AllValuesAreOfWhatWasSeen }
+    ensures dropped { AllDroppedTablesAreTold }
 {}
 
 /// A START is refused by the first of its refusals before anything is looked at: that its token has something open, the

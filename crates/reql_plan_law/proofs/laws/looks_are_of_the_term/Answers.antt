@@ -1,4 +1,4 @@
-use Rattle.reql_plan_law.proofs.Looks.{read_slots_rise, read_slots_are_looked_at, no_others_are_looked_at, each_is_seen_at_its_slot, terms_go_on_in_what_was_seen, values_are_of_what_was_seen}
+use Rattle.reql_plan_law.proofs.Looks.{read_slots_rise, read_slots_are_looked_at, no_others_are_looked_at, each_is_seen_at_its_slot, terms_go_on_in_what_was_seen, values_are_of_what_was_seen, dropped_tables_are_told}
 use Rattle.reql_plan_law.proofs.laws.looks_are_of_the_term.Goals as goal
 
 pub returns-clause-slots : goal.returns-clause-slots
@@ -18,3 +18,6 @@ returns-clause-terms c = terms_go_on_in_what_was_seen
 
 pub returns-clause-values : goal.returns-clause-values
 returns-clause-values c = values_are_of_what_was_seen
+
+pub returns-clause-dropped : goal.returns-clause-dropped
+returns-clause-dropped c = dropped_tables_are_told

@@ -1,5 +1,5 @@
 use Rattle.reql_plan_law.proofs.Looks.{read_slots_rise}
-use Rattle.reql_told.proofs.Looks.{all_read_slots_are_looked_at, all_look_at_no_others, all_are_seen_at_their_slots, all_terms_go_on_in_what_was_seen, all_values_are_of_what_was_seen}
+use Rattle.reql_told.proofs.Looks.{all_read_slots_are_looked_at, all_look_at_no_others, all_are_seen_at_their_slots, all_terms_go_on_in_what_was_seen, all_values_are_of_what_was_seen, all_dropped_tables_are_told}
 use Rattle.reql_told.proofs.laws.looks_are_of_the_term.Goals as goal
 
 pub returns-clause-slots : goal.returns-clause-slots
@@ -19,3 +19,6 @@ returns-clause-terms c = all_terms_go_on_in_what_was_seen
 
 pub returns-clause-values : goal.returns-clause-values
 returns-clause-values c = all_values_are_of_what_was_seen
+
+pub returns-clause-dropped : goal.returns-clause-dropped
+returns-clause-dropped c = all_dropped_tables_are_told
