@@ -7,8 +7,6 @@ mod heard;
 mod laws;
 mod sessions;
 mod steps;
-#[cfg(test)]
-mod tests;
 mod writer;
 
 pub use fold::fold_check;

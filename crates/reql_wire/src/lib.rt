@@ -12,8 +12,6 @@ mod greeter;
 mod greeting_laws;
 mod handshake;
 mod reading;
-#[cfg(test)]
-mod tests;
 mod writing;
 
 pub use feeder::Feeder;

@@ -5,8 +5,6 @@ mod load;
 mod numbers;
 mod options;
 mod tables;
-#[cfg(test)]
-mod tests;
 mod words;
 
 pub use tables::Tables;

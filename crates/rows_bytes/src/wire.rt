@@ -1,4 +1,6 @@
-use crate::{Feeder, Frame, GreetFault, Greeter, Greeting, WireFault, accepted_answer, put_frame};
+use reql_wire::{
+    Feeder, Frame, GreetFault, Greeter, Greeting, WireFault, accepted_answer, put_frame,
+};
 use std::alloc::Global;
 use std::process::Abort;
 use std::test::Fail;

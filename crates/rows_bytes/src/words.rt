@@ -1,4 +1,4 @@
-use crate::{Command, Refusal, Wanted, command_of};
+use reql_words::{Command, Refusal, Wanted, command_of};
 use std::alloc::Global;
 use std::test::Fail;
 

@@ -1,5 +1,5 @@
-use crate::{fold_check, script};
 use reql_datum::{Datum, Fields, Items, Memory, Name, Whole};
+use reql_load::{fold_check, script};
 use std::alloc::Global;
 use std::test::Fail;
 
