@@ -191,14 +191,19 @@ SubscribesArePlaced = (s : State) (before during later : History) (by : ℕ) (ac
 abbrev pub NumbersRise : Type 0
 NumbersRise = (s : State) (history : History) → subscribing.RiseFrom s.table.place (subscribing.numbers_from (feeding s.most) s.table (map known_entry history))
 
--- After each command the feeds that were open on a table are open still, in their order, each with its owner, number, request and opening, but where an
--- Unsubscribe is answered Closed, which takes out just the feed of that owner and number; and none is new but where a Subscribe is answered by a feed, which is
+-- After each command the feeds that were open on a table are open still, in their order, each with its owner, number, request and stamp of opening, but where an
+-- Unsubscribe is answered Closed, which takes out just the asker's feed of that number; and none is new but where a Subscribe is answered by a feed, which is
 -- the last. Rules out an Unsubscribe that closes nothing, or another user's feed, a feed that is told of and not opened, and a write or a drop that ends a feed.
 abbrev pub FeedsComeAndGo : Type 0
 FeedsComeAndGo = (s : State) (by : ℕ) (order : Order) → ending.LeavesOpen (feeding s.most) s.table (after s by order).table by (known_cmd order.cmd) (reply s by order).said
 
--- An Unsubscribe is answered Closed exactly where its owner has the feed open and the history has room for one more entry; where the feed isn't open, Gone exactly
--- where the table was dropped, and else that it is unknown; and that the history is full, where it has no room, in place of Closed and of unknown. Rules out a
--- feed that can't be closed once its table was dropped.
+-- An Unsubscribe is answered Closed where who asks has a feed of that number open; where he has none, Gone if the table is shut, and else that the feed is unknown;
+-- and where the history has no room for one more entry, that it is full, in place of Closed and of unknown. Rules out a feed that the drop of its table keeps from
+-- being closed.
 abbrev pub UnsubscribesAreTold : Type 0
 UnsubscribesAreTold = (s : State) (by feed : ℕ) (order : Order) → order.cmd ≡ cmds.Unsubscribe feed → ending.MayClose (feeding s.most) s.table by feed (reply s by order).said
+
+-- A look tells the place and the stamp of the table, and its documents and indexes, or that there are none where it is shut. Rules out a table that is there and
+-- told as dropped, and one that was dropped and is read.
+abbrev pub LooksTellTheTable : Type 0
+LooksTellTheTable = (s : State) → ending.TellsTable (feeding s.most) s.table

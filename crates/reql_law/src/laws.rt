@@ -1,15 +1,18 @@
 // Laws of the table machine, each a clause of a function that does nothing.
 ghost use Rattle.reql_law.specs.Reading.{PointsAreRead, RangesAreRead, NamedRangesAreRead, LimitsAreRead, LimitsByKeyAreRead};
 ghost use Rattle.reql_law.specs.Terms.{PointsShowTheirTerms, RangesShowTheirTerms, LimitsShowTheirTerms};
-ghost use Rattle.reql_law.specs.Laws.{RefusedStays, RecordedFit, DocsAtStamp, StampCounts, LaterDocs, DocsStay, TablesStay, WritesLand, GoodStay, IndexesStay, MakingStays, ShutWhereDropped, KindsFold, FeedsFold, TakesTellSkips, TakesLieInOrder, TakesArePlaced, SubscribesArePlaced, NumbersRise, FeedsComeAndGo, UnsubscribesAreTold};
+ghost use Rattle.reql_law.specs.Laws.{RefusedStays, RecordedFit, DocsAtStamp, StampCounts, LaterDocs, DocsStay, TablesStay, WritesLand, GoodStay, IndexesStay, MakingStays, ShutWhereDropped, KindsFold, FeedsFold, TakesTellSkips, TakesLieInOrder, TakesArePlaced, SubscribesArePlaced, NumbersRise, FeedsComeAndGo, UnsubscribesAreTold, LooksTellTheTable};
 
 /// A command that adds no entry leaves the table as it was, and one that does adds one to the place;
 /// places and stamps are numbers of a u64. The documents of a table are those after all changes of
 /// its history, which the stamp counts; those at a stamp, and the table at a place, stay the same
 /// when the history goes on. A write leaves what writes leave. Documents stay in order of their keys
-/// and no nulls, and indexes in order of their names; limits, and how an engine was made, stay. The open
-/// feeds stay, but where an Unsubscribe is answered Closed, and none is new but where a Subscribe is
-/// answered by a feed; and an Unsubscribe is answered as the feeds that are open say.
+/// and no nulls, and indexes in order of their names; limits, and how an engine was made, stay. Which
+/// feeds are open changes by nothing but a Subscribe that is answered by a feed, which adds that one, and
+/// an Unsubscribe that is answered Closed, which ends just the asker's feed of that number; and an
+/// Unsubscribe is answered as these feeds, the room of the history and whether the table is shut say. A
+/// table is shut exactly where it was or a command of its history dropped it. A look tells the table's
+/// place and stamp, and its documents and indexes, or none where it is shut.
 pub fn table_laws()
     ensures refused { RefusedStays }
     ensures recorded { RecordedFit }
@@ -24,6 +27,8 @@ pub fn table_laws()
     ensures making { MakingStays }
     ensures feeds { FeedsComeAndGo }
     ensures closed { UnsubscribesAreTold }
+    ensures shut { ShutWhereDropped }
+    ensures looks { LooksTellTheTable }
 {}
 
 /// Feeds of every kind meet the laws that the machine asks of them: their items, one change after

@@ -105,7 +105,8 @@ fn print<K: Sink>(
 /// its Takes give, and folds to the value of its query up to where its answers are whole; no open feed has
 /// an arm twice, and no two share one; and each Take and each Subscribe that is answered is answered as its table says at its
 /// place. The clauses on refusals and plans, on what a plan looks at, on what the server tells, on which feeds a CHANGES asks
-/// for and what it comes to, and on the values of feeds stand beside `run` of `reql_run`.
+/// for and what it comes to, on which feeds a table has open and what a look at it tells, and on the values of feeds stand
+/// beside `run` of `reql_run`.
 pub fn load<R, K: Sink>(rt: &R, alloc: Global, words: &[String], out: &mut K) -> Loaded
 where
     R: Threads + Wait + Sync,

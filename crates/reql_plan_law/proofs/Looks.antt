@@ -2,7 +2,8 @@
 use Rattle.std.proofs.Common.{◌≡◌, ℕ, ℤ, nat_eq, nat_lt, List, [], ◌∷◌, ◌++◌, map, Option, Some, None, option_and_then, is_some, Bool, true, false, not, ◌&&◌, ◌||◌, cond, if◌then◌else◌, ◌⊎◌, inl, inr, Ok, Err, refl, sym, ap, ◌∙◌, arith}
 use Rattle.std.proofs.lemmas.Bool.{eqb-true}
 use Rattle.std.proofs.lemmas.Bool.Decides.{nat_tests}
-use Rattle.reql_datum.specs.Answer.{Answer, Reason, ◌>>=◌}
+use Rattle.std.specs.Option.{unwrap_or}
+use Rattle.reql_datum.specs.Answer.{Answer, Reason, ◌>>=◌, op_failed}
 use Rattle.reql_datum.specs.Whole.{is_in}
 use Rattle.reql_datum.specs.declared.whole.NumFault.TheVariants.{OverRange}
 use Rattle.reql_datum.specs.declared.point.Point.{Point}
@@ -34,7 +35,7 @@ use Rattle.reql_plan_law.specs.Opens.{at_time}
 use Rattle.reql_plan_law.specs.Reads.{has_now, leaks, now_rule, reads, read_slots, rising, with_slot}
 use Rattle.reql_plan_law.specs.Request.{Request, ends, asks, Moves, request, give, refuse, from, answered, moves, next}
 use Rattle.reql_plan_law.specs.Settled.{meant_of}
-use Rattle.reql_plan_law.specs.Texts.{undetermined, too_many_cursors}
+use Rattle.reql_plan_law.specs.Texts.{dropped_text, undetermined, too_many_cursors}
 use Rattle.reql_plan_law.proofs.Answering.{sent_wanted}
 use Rattle.reql_plan_law.proofs.Asked.{looks_on, clocked_on, resolved_on, more_after}
 use Rattle.reql_plan_law.proofs.Unsent.{Looks, Answers, tells_carried}
@@ -348,6 +349,7 @@ dropped_tables_are_told p s hs r =
     ∙ ap (next (read p s ns g ends)) r.heard
     ∙ ap (λ slots. next (looks ns nothing_read slots (λ x. carried (held p s ns x) g ends)) (heard_in r.sights ++ looked r.at ∷ r.replies)) (sym r.slots)
     ∙ is_missed ns (λ x. carried (held p s ns x) g ends) r.slot r.unseen r.at r.replies r.none nothing_read r.sights
+    ∙ ap (λ (names : Option (List ℕ × List ℕ)). answered (stop (fault (op_failed (dropped_text (unwrap_or names ([], [])).0 (unwrap_or names ([], [])).1))))) r.named
     )
 
 -- ---- a value

@@ -1,7 +1,7 @@
 -- The looks of a plan at slots, by what it hears: at those that its term reads, rising, each once, and at no others; and that the term goes on over
 -- the tables that were seen, each at the look at its own slot.
 use Rattle.std.specs.Prelude.{◌≡◌, ℕ, ℤ, nat_eq, nat_lt, List, [], ◌∷◌, ◌++◌, ◌⊎◌, map, min, Option, Some, None, is_some, Bool, true, false, not, ◌&&◌, ◌||◌, cond, Ok, Err}
-use Rattle.reql_datum.specs.Answer.{Answer, ◌>>=◌}
+use Rattle.reql_datum.specs.Answer.{Answer, ◌>>=◌, op_failed}
 use Rattle.reql_datum.specs.Members.{find}
 use Rattle.reql_datum.specs.declared.point.Point.{Point}
 use Rattle.reql_term.specs.Form.{Form, operation, Forms}
@@ -9,7 +9,7 @@ use Rattle.reql_term.specs.Table.{task_of}
 use Rattle.reql_term.specs.Views.{Document}
 use Rattle.reql_term.specs.declared.role.Task.{Task}
 use Rattle.reql_term.specs.declared.role.Task.TheVariants as task
-use Rattle.reql_catalog.specs.Catalog.{Named}
+use Rattle.reql_catalog.specs.Catalog.{Named, names_at}
 use Rattle.reql_naming.specs.Named.{resolved}
 use Rattle.reql_value.specs.Index.{plain_view}
 use Rattle.reql_value.specs.Meaning.{value}
@@ -22,12 +22,12 @@ use Rattle.reql_plan_law.specs.declared.parts.Plan.{Plan}
 use Rattle.reql_plan_law.specs.declared.parts.Setting.{Setting}
 use Rattle.reql_plan_law.specs.Asked.{clock, is_clocked}
 use Rattle.reql_plan_law.specs.Course.{any_command, carried, fits_in, plan_next, sent}
-use Rattle.reql_plan_law.specs.Held.{Held, key_of, names_of, number_in, dropped}
+use Rattle.reql_plan_law.specs.Held.{Held, key_of, names_of, number_in}
 use Rattle.reql_plan_law.specs.Move.{look, Heard, names, looked, fault, Outcome, atom, grouped, sequence, stop, unsent}
 use Rattle.reql_plan_law.specs.Opens.{at_time}
 use Rattle.reql_plan_law.specs.Reads.{has_now, leaks, reads, read_slots}
 use Rattle.reql_plan_law.specs.Request.{request, Next, answered, moves, next}
-use Rattle.reql_plan_law.specs.Texts.{too_many_cursors}
+use Rattle.reql_plan_law.specs.Texts.{dropped_text, too_many_cursors}
 
 -- ---- the looks, each with its answer, if it has one
 abbrev pub look_in : Next → Option Heard → List (ℕ × Option Heard)
@@ -138,15 +138,19 @@ pub record Misses (p : Plan) (hs : List Heard) : Type 0 where
   pub slot : ℕ
   pub unseen : List ℕ
   pub slots : map (λ (x : Sight). x.slot) sights ++ slot ∷ unseen ≡ read_slots reading.carried
+  pub db : List ℕ
+  pub table : List ℕ
+  pub named : names_at slot reading.known ≡ Some (db, table)
   pub at : Seen
   pub none : at.view ≡ None
   pub replies : List Heard
   pub heard : reading.rest ≡ map (λ (x : Sight). looked x.at) sights ++ looked at ∷ replies
 
--- Whatever its term is, it is told that the table of this slot was dropped, by the names that were heard. Rules out a term that goes on without it, and a fault
--- that names another table.
+-- Whatever its term is, it makes no further move, and its answer, where one is wanted, is that the table of this slot was dropped, by the names that were heard.
+-- Rules out a term that goes on without it, and a fault that names another table. The table that a command is on, and that of a feed without a limit, is not read;
+-- of commands whose own table was dropped this says nothing.
 abbrev pub DroppedTablesAreTold : Type 0
-DroppedTablesAreTold = (p : Plan) (s : Setting) (hs : List Heard) (r : Misses p hs) → plan_next p s hs ≡ answered (cond s.noreply unsent (stop (fault (dropped r.reading.known r.slot))))
+DroppedTablesAreTold = (p : Plan) (s : Setting) (hs : List Heard) (r : Misses p hs) → plan_next p s hs ≡ answered (cond s.noreply unsent (stop (fault (op_failed (dropped_text r.db r.table)))))
 
 -- ---- where the term reads alone (it is no command, no CHANGES, and no BRANCH with a command in an arm), its value there is the answer, or why it has none;
 -- or that too many cursors are open, where it is a sequence longer than a batch

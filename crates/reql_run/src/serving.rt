@@ -4,7 +4,7 @@ ghost use Rattle.reql_outside.specs.Tape.{IsFresh};
 ghost use Rattle.reql_words.specs.Words.{asks, named};
 ghost use Rattle.reql_core.specs.Core.{state_of};
 ghost use Rattle.reql_open_feed.specs.Open.{held_in};
-ghost use Rattle.reql_law.specs.Laws.{DocsAtStamp, StampCounts, FeedsComeAndGo, UnsubscribesAreTold};
+ghost use Rattle.reql_law.specs.Laws.{DocsAtStamp, StampCounts, FeedsComeAndGo, UnsubscribesAreTold, ShutWhereDropped, LooksTellTheTable};
 ghost use Rattle.reql_law.specs.Terms.{PointsShowTheirTerms, RangesShowTheirTerms, LimitsShowTheirTerms};
 ghost use Rattle.reql_plan_law.specs.Looks.{ReadSlotsRise};
 ghost use Rattle.reql_told.specs.Laws.{AllInOrder, AllFramesHandled, AllWornLate, AllFirstFailed, AllAreAnswered, AllWaitForNothing, AllValidClose, AllFeedsHold, AllSkipsAreSent, AllFeedsAreRead, AllFeedsAreTheirs, AllFeedsAreOpened, AllFeedsBegin, AllFeedsOpen, AllFeedsEnd, AllContinuesAreAnswered, AllNothingKeptBack, AllOfFeedsIsSent, AllFeedsAreTold, AllBatchesAreOfFeeds, AllBatchesAreFull, AllTakesAreOfFeeds, AllIsSaid, AllFeedsAreAskedInTurn, AllRunNoOtherFeeds, AllFeedsEndWithTheirOwn, AllFaultyFeedsAreRefused, AllCrowdedFeedsAreRefused, AllNextFeedsAreRun, AllOpenFeedsAreTold, AllDeniedFeedsAreClosed, AllArmsAreApart, AllTakesArePlaced, AllSubscribesArePlaced, BatchesAgree, InfoIsServers, PlansAreTold};
@@ -67,13 +67,15 @@ fn serve<R: Wait, L: Link + Drop, D: Dice + Drop, T: Clock + Drop>(
 /// which is nothing or a greeting that is accepted and whole frames within the limit, is handled to its last frame, and the
 /// status is 0, unless a receive or a send failed, it took more turns than there are, or memory was wanted; every request
 /// is answered by its plan, or by the first of its refusals; a plan looks at no slots but those that its term reads, and goes
-/// on over the tables that it saw there, each at the look at its own slot, or is told which of them was dropped; a CHANGES opens the feeds of its own terms, in
-/// their order and no others, or is answered by its refusal; every feed that is open follows a document, a range or the first
+/// on over the tables that it saw there, each at the look at its own slot, or ends at the first look that finds no table,
+/// with the answer, if one is wanted, that this table was dropped; a CHANGES opens the feeds of its own terms, in their
+/// order and no others, or is answered by its refusal; every feed that is open follows a document, a range or the first
 /// of an order, so that none stays silent since its term could not be read, is told its plan's first items and then what its
 /// Takes give, in order and nothing else, and folds to the value of its query up to where its answers are whole; no open feed
-/// has an arm twice, and no two share one; the open feeds of a table change by nothing but a Subscribe that is answered by a
-/// feed and an Unsubscribe that is answered Closed, each by just that feed; and each Take and each Subscribe that is answered
-/// is answered as its table says at its place.
+/// has an arm twice, and no two share one; which feeds a table has open changes by nothing but a Subscribe that is answered by
+/// a feed and an Unsubscribe that is answered Closed, each by just that feed; a table is shut exactly where it was or a command
+/// dropped it, and a look tells the table as it stands; and each Take, each Subscribe and each Unsubscribe that is answered is
+/// answered as its table says at its place.
 pub fn run<R: Wait, L: Link + Drop, D: Dice + Drop, T: Clock + Drop>(
     rt: &R,
     alloc: Global,
@@ -135,6 +137,8 @@ pub fn run<R: Wait, L: Link + Drop, D: Dice + Drop, T: Clock + Drop>(
     ensures stamps { StampCounts }
     ensures feeds_come_and_go { FeedsComeAndGo }
     ensures unsubscribes_are_told { UnsubscribesAreTold }
+    ensures shut_where_dropped { ShutWhereDropped }
+    ensures looks_tell_the_table { LooksTellTheTable }
     ensures points { PointsShowTheirTerms }
     ensures ranges { RangesShowTheirTerms }
     ensures limits { LimitsShowTheirTerms }

@@ -4,7 +4,7 @@ use Rattle.std.specs.Prelude.{nat_lt}
 use Rattle.reql_table_machine.specs.Feeding.{Feeding}
 use Rattle.reql_table_machine.specs.Feeds.{Feed, Table, is_of, find_feed, notice, after_change, after_changes, new_feed, opened_in, opens, left_by, unless_shut, closes, adds, is_past, if_room, effect, one_more, answer}
 use Rattle.reql_table_machine.specs.Telling.{HasRoom}
-use Rattle.reql_table_machine.specs.Ending.{emptied, is_open, open_in, OpensSo, ClosesSo, FeedsComeAndGo, MayClose, UnsubscribesAreTold}
+use Rattle.reql_table_machine.specs.Ending.{LooksTellTheTable, emptied, is_open, open_in, OpensSo, ClosesSo, FeedsComeAndGo, MayClose, UnsubscribesAreTold}
 use Rattle.reql_table_machine.specs.declared.command.Cmd.TheVariants as cmds
 use Rattle.reql_table_machine.specs.declared.command.Said.{Said}
 use Rattle.reql_table_machine.specs.declared.command.Said.TheVariants as said
@@ -117,3 +117,12 @@ module _ {D J W N P M X K I F : Type 0} (m : Feeding D J W N P M X K I F) where
 
   pub unsubscribes_are_told : UnsubscribesAreTold m
   unsubscribes_are_told t by feed = may_close t by feed (find_feed by feed t.feeds) refl
+
+  -- ---- a look
+  pub looks_tell_the_table : LooksTellTheTable m
+  looks_tell_the_table t = record {
+    place = refl;
+    stamp = refl;
+    there = λ e. ap (λ b. cond b None (Some (t.docs, t.indexes))) e;
+    gone = λ e. ap (λ b. cond b None (Some (t.docs, t.indexes))) e;
+  }

@@ -4,7 +4,7 @@ ghost use Rattle.reql_table_machine.specs.Laws.{RefusedStays, DocsAtStamp, Later
 ghost use Rattle.reql_table_machine.specs.Skips.{OldestAreSkipped, SkipsCount, NothingIsSkipped, SkipsOfFullQueues, SkipsBetweenTakes};
 ghost use Rattle.reql_table_machine.specs.Telling.{TakesTellSkips, TakesLieInOrder, TakesArePlaced};
 ghost use Rattle.reql_table_machine.specs.Subscribing.{NumbersRise, SubscribesArePlaced};
-ghost use Rattle.reql_table_machine.specs.Ending.{FeedsComeAndGo, UnsubscribesAreTold};
+ghost use Rattle.reql_table_machine.specs.Ending.{FeedsComeAndGo, UnsubscribesAreTold, LooksTellTheTable};
 ghost use Rattle.reql_table_machine.specs.Sample.{one_number, Good, May};
 
 /// What a table's writes and feeds mean.
@@ -37,11 +37,13 @@ pub trait Meaning {
 }
 
 /// A command that adds no entry leaves the table as it was; the documents of a table are those after
-/// all changes of its history; and the documents at a stamp stay the same when the history goes on.
+/// all changes of its history; and the documents at a stamp stay the same when the history goes on. A look
+/// tells the table's place and stamp, and its documents and indexes, or none where it is shut.
 pub fn machine_laws<F: Meaning>()
     ensures refused { RefusedStays F.feeding }
     ensures docs { DocsAtStamp F.feeding }
     ensures later { LaterDocs F.feeding }
+    ensures looks { LooksTellTheTable F.feeding }
 {}
 
 /// Where the laws of its kinds of feed hold, each feed that a user opened along a history folds to its query.
@@ -96,11 +98,11 @@ pub fn numbers_rise<F: Meaning>()
 {}
 
 /// After each command the feeds of a table that were open are open still, in their order, each with its
-/// owner, number, request and opening, but where an Unsubscribe is answered Closed, which ends just the
-/// feed of that owner and number; and none is new but where a Subscribe is answered by a feed, which is the
-/// last. An Unsubscribe is answered Closed exactly where the feed is open and the history has room for one
-/// more entry. Where the feed isn't open, the answer is Gone exactly where the table was dropped, and else
-/// that the feed is unknown, or where the history has no room that it is full.
+/// owner, number, request and stamp of opening, but where an Unsubscribe is answered Closed, which ends just
+/// the asker's feed of that number; and none is new but where a Subscribe is answered by a feed, which is the
+/// last. An Unsubscribe is answered Closed where who asks has a feed of that number open. Where he has none,
+/// the answer is Gone if the table is shut, and else that the feed is unknown. Where the history has no room
+/// for one more entry, it is that it is full, in place of Closed and of unknown.
 pub fn feeds_come_and_go<F: Meaning>()
     ensures feeds { FeedsComeAndGo F.feeding }
     ensures closed { UnsubscribesAreTold F.feeding }

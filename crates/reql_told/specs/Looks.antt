@@ -1,14 +1,16 @@
 -- What a session looks at for a plan, by what the plan's moves found, in the session's words: the slots that its term reads, rising, each once, and no
 -- others; and what it is then told is of the tables that were seen, each at the look at its own slot.
 use Rattle.std.specs.Prelude.{◌≡◌, ℕ, List, [], ◌∷◌, ◌++◌, ◌⊎◌, map, Option, Some, None, Bool, true, false, cond}
+use Rattle.reql_datum.specs.Answer.{op_failed}
 use Rattle.reql_law.specs.declared.limits.Limits.{Limits}
 use Rattle.reql_plan_law.specs.declared.parts.Plan.{Plan}
 use Rattle.reql_plan_law.specs.Course.{carried, sent}
-use Rattle.reql_plan_law.specs.Held.{Held, dropped}
+use Rattle.reql_plan_law.specs.Held.{Held}
 use Rattle.reql_plan_law.specs.Looks.{Reading, in_turn, Sight, HasRead, Misses, held_of, is_reading, told_as, shown_in}
 use Rattle.reql_plan_law.specs.Move as plans
 use Rattle.reql_plan_law.specs.Reads.{read_slots}
 use Rattle.reql_plan_law.specs.Request.{request, next}
+use Rattle.reql_plan_law.specs.Texts.{dropped_text}
 use Rattle.reql_story.specs.Requests.{Move, LookSlot, Start, Ends, Found}
 use Rattle.reql_told.specs.Told.{talk, heard_of, setting_of, answered_of, move_of}
 
@@ -57,11 +59,11 @@ AllTermsGoOnInWhatWasSeen = (key : List ℕ) (limits : Limits) (body : List ℕ)
     → (talk key limits).asked body ≡ Start noreply plan → (r : HasFound limits plan quiet count found)
     → (talk key limits).next plan quiet count found ≡ move_of (sent (setting_of limits quiet count) (next (request (carried (held_by limits plan quiet count found r) r.reading.carried)) r.replies))
 
--- Where a table was found at each of the first slots, and none at the next, the answer is that the table of this one was dropped.
+-- Where a table was found at each of the first slots, and none at the next, the answer, where one is wanted, is that the table of this one was dropped, by its names.
 abbrev pub AllDroppedTablesAreTold : Type 0
 AllDroppedTablesAreTold = (key : List ℕ) (limits : Limits) (body : List ℕ) (noreply : Bool) (plan : Plan) (quiet : Bool) (count : ℕ) (found : List Found)
     → (talk key limits).asked body ≡ Start noreply plan → (r : Misses plan (map heard_of found))
-    → (talk key limits).next plan quiet count found ≡ Ends (answered_of (cond quiet plans.unsent (plans.stop (plans.fault (dropped r.reading.known r.slot)))))
+    → (talk key limits).next plan quiet count found ≡ Ends (answered_of (cond quiet plans.unsent (plans.stop (plans.fault (op_failed (dropped_text r.db r.table))))))
 
 -- Where it reads alone and an answer is wanted, its value there is the answer, or why it has none; or that too many cursors are open.
 abbrev pub AllValuesAreOfWhatWasSeen : Type 0

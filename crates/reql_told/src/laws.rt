@@ -43,8 +43,9 @@ pub fn changes_are_answered()
 /// at each, and nothing else, whatever is found. When all are seen the term goes on in the world that has, for each of these slots,
 /// the table that was seen at the look at that very slot, and no other tables; so a body that reads alone (no command, no
 /// CHANGES, no BRANCH with a command in an arm), and wants an answer, is answered by what its term gives over these tables, by
-/// why it gives nothing, or, where that is a sequence longer than a batch, by that too many cursors are open. Where there is no
-/// table at one of them, a body that wants an answer is told that the table of this slot was dropped, and nothing else is done.
+/// why it gives nothing, or, where that is a sequence longer than a batch, by that too many cursors are open. Where a look
+/// finds no table, nothing more is done, and the answer, where one is wanted, is that the table of this slot was dropped, by its
+/// names. Of a command whose own table was dropped, which it doesn't read, this says nothing.
 pub fn looks_are_of_the_term()
     ensures slots { ReadSlotsRise }
     ensures looks { AllReadSlotsAreLookedAt }
