@@ -1,4 +1,2 @@
-pub mod Called
 pub mod Kinds
-pub mod Ruled
 pub mod Wrapped

@@ -47,9 +47,9 @@ pub(crate) fn stream(found: Result<Items, Fault>) -> Result<Value, Fault>
     }
 }
 
-/// Groups.
+/// Groups, as a value.
 #[tactic(auto, using(reql_operand::proofs::Steps::fails_on))]
-pub(crate) fn grouped_value(found: Result<Vec<Group>, Fault>) -> Result<Value, Fault>
+pub fn grouped_value(found: Result<Vec<Group>, Fault>) -> Result<Value, Fault>
     ensures { (w : Seen) (a : Answer (List (Plain × Plain)))
         → Gives (λ gs. map group gs.items) found a → Gives (meant w) result (of_groups a) }
 {

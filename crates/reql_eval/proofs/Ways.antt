@@ -1,5 +1,5 @@
 -- What operators denote, by how they take their arguments.
-use Rattle.std.proofs.Common.{◌≡◌, ℕ, suc, List, [], ◌∷◌, Result, Ok, Err, Bool, true, false, refl, ap, sym, ◌∙◌, nat_eq, arith, length, get_or, map, ◌<◌, ◌⊎◌, inl, inr}
+use Rattle.std.proofs.Common.{◌≡◌, ℕ, suc, List, [], ◌∷◌, Result, Err, true, false, refl, ap, sym, ◌∙◌, nat_eq, arith, length, get_or, map, ◌<◌, ◌⊎◌, inl, inr}
 use Rattle.std.proofs.lemmas.Bool.Decides.{nat_tests}
 use Rattle.reql_datum.specs.Answer.{Answer, Reason}
 use Rattle.reql_datum.specs.Outcome.{Gives}
@@ -14,29 +14,28 @@ use Rattle.reql_term.specs.declared.role.Way.TheVariants as way
 use Rattle.reql_term.specs.declared.term.Term.{Term}
 use Rattle.reql_rules.specs.Faults.{misplaced, wrong_count}
 use Rattle.reql_rules.specs.Lists.{Bytes}
-use Rattle.reql_value.specs.Lazy.{chained, branch, told, default}
-use Rattle.reql_value.specs.Meaning.{sense, sense_by, ordered, called, settled, applied as applied_to}
-use Rattle.reql_value.specs.Meant.{Meant, Rule}
+use Rattle.reql_value.specs.Lazy.{chained, branch, default}
+use Rattle.reql_value.specs.Meaning.{sense, sense_by, called, settled, applied as applied_to}
+use Rattle.reql_value.specs.Meant.{Rule}
 use Rattle.reql_value.specs.Sense.{Sense, plain, func, sorter, raiser, value, key_argument, arguments, key_arguments, strict}
 use Rattle.reql_value.specs.Scalars.{make_array}
-use Rattle.reql_value.specs.Sequenced.{array, on_groups}
+use Rattle.reql_value.specs.Sequenced.{array}
 use Rattle.reql_value.specs.World.{World, Vars, bind}
-use Rattle.reql_operand.specs.Seen.{meant}
-use Rattle.reql_operand.specs.declared.value.Value.{Value}
 use Rattle.reql_apply.specs.Kinds.{kind_rule}
-use Rattle.reql_apply.specs.Ruled.{ruled, in_groups}
+use Rattle.reql_ways.specs.Ruled.{ruled, in_groups}
 use Rattle.reql_apply.specs.declared.kinds.Kind.{Kind}
 use Rattle.reql_apply.specs.declared.kinds.Kind.TheVariants as kind
 use Rattle.reql_apply.specs.declared.kinds.Scalar.TheVariants as scalar
 use Rattle.reql_sense.specs.Bound.{bound, bound_step, listed, optional}
 use Rattle.reql_sense.proofs.Frames.{bind_differs}
 use Rattle.reql_sense.specs.Kinds.{given_to}
-use Rattle.reql_sense.specs.Ways.{taken_by, is_taking, is_lazy, lazy, tail, either, default_of, of_nothing}
+use Rattle.reql_sense.specs.Ways.{taken_by, is_taking, is_lazy, lazy, tail}
 use Rattle.reql_sense.specs.declared.vars.Vars.TheVariants as vars
 use Rattle.reql_sense.specs.declared.vars.Vars.TheVariants.{rolls-Empty}
 use Rattle.reql_sense.specs.declared.vars.Vars.TheFolds.{fold-roll-Vars}
 use Rattle.reql_sense.specs.declared.vars.Vars.TheOpen.{Vars-F}
-use Rattle.reql_eval.specs.Taken.{applied, taking, key_value, out_of_order}
+use Rattle.reql_ways.specs.Applied.{applied}
+use Rattle.reql_eval.specs.Taken.{taking, key_value, out_of_order}
 
 -- what a call gave, moved along an equation
 pub gives_as : {X Y : Type 0} (view : X → Y) (r : Result X Fault) (a b : Answer Y) → a ≡ b → Gives view r b → Gives view r a
@@ -51,7 +50,7 @@ keys : (ss : List Sense) (w : World) (vars : Vars) → arguments (taken_by way.S
 keys [] w vars = refl
 keys (s ∷ ss) w vars = rw (later_keys 0 ss w vars) refl
 
-pub taking_at : (how : Way) (k : Kind) (ss : List Sense) (os : List (Bytes × Sense)) (w : World) (vars : Vars)
+taking_at : (how : Way) (k : Kind) (ss : List Sense) (os : List (Bytes × Sense)) (w : World) (vars : Vars)
     → is_taking how ≡ true → value (sense_by how (kind_rule k) ss os) w vars ≡ taking how k ss os w vars
 unfolding taking applied ruled in_groups
 taking_at way.Strict k ss os w vars t = refl
@@ -106,16 +105,6 @@ lazy_is way.Rising rule ss os w vars t = cc
 lazy_is way.Falling rule ss os w vars t = cc
 lazy_is way.Raising rule ss os w vars t = cc
 
-pub ordered_is : (down : Bool) (ss : List Sense) (w : World) (vars : Vars) → value (ordered down ss) w vars ≡ key_value ss w vars
-ordered_is down [] w vars = refl
-ordered_is down (s ∷ ss) w vars = refl
-
-told_is : (s : Sense) (w : World) (vars : Vars) (d : Plain) → told s w vars d ≡ given_to s w vars (d ∷ [])
-told_is (plain f) w vars d = refl
-told_is (func f) w vars d = refl
-told_is (sorter down s) w vars d = refl
-told_is (raiser texted f) w vars d = refl
-
 applied_is : (s : Sense) (w : World) (ds : List Plain) → applied_to s w ds ≡ given_to s w [] ds
 applied_is (plain f) w ds = refl
 applied_is (func f) w ds = refl
@@ -126,23 +115,12 @@ pub array_is : (ms : List (Bytes × Form)) (ss : List Sense) (w : World) (vars :
     → strict (array make_array) ss [] w vars ≡ taking way.Strict (kind.Scalar scalar.MakeArray) ss (optional ms) w vars
 array_is ms ss w vars e = rw e (taking_at way.Strict (kind.Scalar scalar.MakeArray) ss [] w vars refl)
 
--- DEFAULT where the first is there
-pub either_there : (s : Sense) (t : Term) (ts : List Term) (w : World) (vars : Vars) (m : Meant) → ts ≡ t ∷ [] → value s w vars ≡ Ok m
-    → either s (sense (form_of t)) w vars ≡ on_groups (tail way.Defaulting (listed ts) w vars) m
-unfolding tail
-either_there s t ts w vars m x e = rw (x, e) refl
-
--- and where there are not two
+-- DEFAULT where there are not two
 pub no_default : (ts : List Term) (w : World) (vars : Vars) → (length ts ≡ 2 → ⊥) → default (listed ts) w vars ≡ Err misplaced
 no_default [] w vars h = refl
 no_default (t ∷ []) w vars h = refl
 no_default (t ∷ u ∷ []) w vars h = absurd (h refl)
 no_default (t ∷ u ∷ v ∷ ts) w vars h = refl
-
-pub no_second : (ts : List Term) (w : World) (vars : Vars) (m : Meant) → (length ts ≡ 1 → ⊥) → default_of (listed ts) w vars m ≡ Err misplaced
-no_second [] w vars m h = refl
-no_second (t ∷ []) w vars m h = absurd (h refl)
-no_second (t ∷ u ∷ ts) w vars m h = refl
 
 -- a key with its direction
 pub first_key : (ts : List Term) (t : Term) (w : World) (vars : Vars) → 0 < length ts → t ≡ get_or ts 0 t → key_value (listed ts) w vars ≡ out_of_order (value (sense (form_of t)) w vars)
@@ -159,17 +137,6 @@ pub other_count : (ids : List ℕ) (s : Sense) (ds : List Datum) (w : World) (va
 other_count ids s ds w vars r h e =
     let b : bind ids (map plain_of ds) vars ≡ Err r = bind_differs ids ds vars h ∙ (ap (λ n. Err (wrong_count (length ids) n)) (length_plains ds) ∙ ap Err (sym e)) in
     rw b refl
-
--- AND, OR and BRANCH of nothing
-pub lazy_nothing : (how : Way) (ts : List Term) (w : World) (vars : Vars) → length ts < 1 → lazy how (listed ts) w vars ≡ of_nothing how
-lazy_nothing how [] w vars h = refl
-lazy_nothing how (t ∷ ts) w vars h = absurd (omega arith)
-
--- what is told of a value in a slice of its own
-pub told_one : (s : Sense) (w : World) (vars : Vars) (xs : List Datum) (x : Datum) (d : Plain) (r : Result Value Fault) → xs ≡ x ∷ [] → plain_of x ≡ d
-    → Gives (meant w) r (given_to s w vars (map plain_of xs)) → Gives (meant w) r (told s w vars d)
-told_one s w vars xs x d r e f h =
-    gives_as (meant w) r (told s w vars d) (given_to s w vars (map plain_of xs)) (told_is s w vars d ∙ ap (given_to s w vars) (sym (ap (map plain_of) e ∙ ap (λ (y : Plain). y ∷ []) f))) h
 
 no_frame : bound vars.Empty ≡ []
 no_frame = ap bound (sym rolls-Empty) ∙ fold-roll-Vars Vars bound_step Vars-F.Empty

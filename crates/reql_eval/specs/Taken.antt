@@ -1,24 +1,15 @@
 -- Operators by how they take their arguments.
-use Rattle.std.specs.Prelude.{List, [], ◌∷◌, Bool, if◌then◌else◌, Ok, Err}
+use Rattle.std.specs.Prelude.{List, [], ◌∷◌, Err}
 use Rattle.reql_datum.specs.Answer.{Answer, ◌>>=◌}
-use Rattle.reql_datum.specs.Plain.{null}
 use Rattle.reql_term.specs.declared.role.Way.{Way}
 use Rattle.reql_rules.specs.Faults.{misplaced, misplaced_order}
 use Rattle.reql_rules.specs.Lists.{Bytes}
-use Rattle.reql_value.specs.Lazy.{told, or_caught}
-use Rattle.reql_value.specs.Meant.{Meant, one, Given, Calls, Options}
+use Rattle.reql_value.specs.Meant.{Meant}
 use Rattle.reql_value.specs.Sense.{Sense, value, arguments, options, calls_of}
 use Rattle.reql_value.specs.World.{World, Vars}
-use Rattle.reql_apply.specs.Ruled.{ruled, in_groups}
 use Rattle.reql_apply.specs.declared.kinds.Kind.{Kind}
-use Rattle.reql_sense.specs.Ways.{taken_by, chosen, is_whole}
-
--- the rule at once, or by groups
-abbrev pub applied_by : Bool → Kind → World → Calls → Options → List Given → Answer Meant
-applied_by whole k w calls opts gs = if whole then ruled k w calls opts gs else in_groups k w calls opts gs
-
-unfoldable pub applied : Way → Kind → World → Calls → Options → List Given → Answer Meant
-applied how k w calls opts gs = applied_by (is_whole how) k w calls opts gs
+use Rattle.reql_sense.specs.Ways.{taken_by, chosen}
+use Rattle.reql_ways.specs.Applied.{applied}
 
 -- the rule on what the arguments and the optional ones gave
 unfoldable pub taking : Way → Kind → List Sense → List (Bytes × Sense) → World → Vars → Answer Meant
@@ -34,7 +25,3 @@ out_of_order a = a >>= λ m. Err misplaced_order
 abbrev pub key_value : List Sense → World → Vars → Answer Meant
 key_value [] w vars = Err misplaced
 key_value (s ∷ ss) w vars = out_of_order (value s w vars)
-
--- the second argument of DEFAULT, where the first is null
-abbrev pub if_null : Sense → World → Vars → Answer Meant
-if_null s w vars = or_caught (Ok (one null)) (told s w vars null)

@@ -5,31 +5,31 @@ ghost use Rattle.reql_datum.specs.Members.{text_order};
 ghost use Rattle.reql_datum.specs.Outcome.{Gives};
 ghost use Rattle.reql_datum.specs.View.{plain};
 ghost use Rattle.reql_term.specs.View.{form_of};
-ghost use Rattle.reql_value.specs.Lazy.{chain as chain_of, branches as branches_of, branch_on as branch_on_of, default, unless_nothing as unless_nothing_of};
+ghost use Rattle.reql_value.specs.Lazy.{default};
 ghost use Rattle.reql_value.specs.Meaning.{sense, sense_of, called, make_object};
 ghost use Rattle.reql_value.specs.Scalars.{make_array};
-ghost use Rattle.reql_value.specs.Sense.{value, argument, key_argument, arguments, option, index_option, default_option, options, strict, call_of, calls_of};
-ghost use Rattle.reql_value.specs.Sequenced.{array, on_groups as on_groups_of};
+ghost use Rattle.reql_value.specs.Sense.{value, argument, key_argument, arguments as arguments_of, option, index_option, default_option, options, strict, call_of, calls_of};
+ghost use Rattle.reql_value.specs.Sequenced.{array};
 ghost use Rattle.reql_operand.specs.Seen.{meant, shown, key, all_shown, all_chosen};
 ghost use Rattle.reql_operand.specs.Tables.{seen};
-ghost use Rattle.reql_apply.specs.Ruled.{ruled, in_groups};
 ghost use Rattle.reql_sense.specs.Bound.{bound, listed, optional};
 ghost use Rattle.reql_sense.specs.Kinds.{sense_in, given_to};
-ghost use Rattle.reql_sense.specs.Ways.{taken_by, chosen, tail, tail_by, default_of, lazy, lazy_first, either, missing, tested};
-ghost use Rattle.reql_eval.specs.Taken.{applied, taking, key_value, if_null as if_null_of};
+ghost use Rattle.reql_sense.specs.Ways.{taken_by, chosen, lazy, either};
+ghost use Rattle.reql_ways.specs.Applied.{applied};
+ghost use Rattle.reql_ways.specs.Lent.{value_at, taken_at};
+ghost use Rattle.reql_eval.specs.Taken.{taking, key_value};
 
 use crate::steps::{out_of_order, parameter, table, variable};
-use reql_apply::{Kind, Scalar, at_once, by_groups, kind_of, on_groups};
-use reql_datum::{Datum, Fault, Name};
-use reql_operand::{Arg, Choice, Key, Value, World, misplaced, sized, wrong_count};
+use reql_apply::{Kind, Scalar, kind_of};
+use reql_datum::{Datum, Fault};
+use reql_operand::{Arg, Choice, Key, Value, World, misplaced, wrong_count};
 use reql_sense::{
-    Vars, arg_of, callee, direction, function_in, is_fit, is_true_value, is_whole, late, object_of,
-    of_nothing, or_caught, raising, something, stops_at, takes_key,
+    Vars, arg_of, callee, direction, function_in, is_fit, late, object_of, raising, takes_key,
 };
 use reql_simple::found;
 use reql_term::{Op, TableView, Term, TermFields, Way};
+use reql_ways::{apply_by, arguments, default_to, function_at, lazily};
 use std::alloc::Global;
-use std::slice;
 
 /// What a term gives in a value position.
 #[cycle(eval)]
@@ -175,7 +175,6 @@ fn eval_all<V: TableView>(
 
 // The rule of an operator on what its arguments gave.
 #[cycle(eval)]
-#[tactic(auto, unfolding(crate::specs::Taken::applied))]
 fn apply_to<V: TableView>(
     alloc: Global,
     way: Way,
@@ -191,60 +190,9 @@ fn apply_to<V: TableView>(
         (applied way kind w (calls_of (listed terms.now) w (bound vars.now))
         (all_chosen w choices.now) (all_shown w args.items)) }
 {
-    if is_whole(way) {
-        return apply_whole(alloc, kind, &args, choices, terms, world, vars);
-    }
-    apply_in_groups(alloc, kind, args, choices, terms, world, vars)
-}
-
-// At once, groups as they are.
-#[cycle(eval)]
-fn apply_whole<V: TableView>(
-    alloc: Global,
-    kind: Kind,
-    args: &[Arg],
-    choices: &[Choice],
-    terms: &[Term],
-    world: &World<V>,
-    vars: &Vars,
-) -> Result<Value, Fault>
-    ensures { let w = seen V.documents V.indexes V.entries world.now in
-        Gives (meant w) result
-        (ruled kind w (calls_of (listed terms.now) w (bound vars.now))
-        (all_chosen w choices.now) (all_shown w args.now)) }
-{
-    at_once(
+    apply_by(
         alloc,
-        kind,
-        args,
-        choices,
-        world,
-        &|at: usize, values: &[Datum]|
-            ensures { let w = seen V.documents V.indexes V.entries world.entry.now in
-                Gives (meant w) result (calls_of (listed terms.entry.now) w (bound vars.entry.now) at
-                (map plain values.now)) }
-        { call(alloc, terms, at, values, world, vars) },
-    )
-}
-
-// On the members of each group, where the first argument is grouped.
-#[cycle(eval)]
-fn apply_in_groups<V: TableView>(
-    alloc: Global,
-    kind: Kind,
-    args: Vec<Arg>,
-    choices: &[Choice],
-    terms: &[Term],
-    world: &World<V>,
-    vars: &Vars,
-) -> Result<Value, Fault>
-    ensures { let w = seen V.documents V.indexes V.entries world.now in
-        Gives (meant w) result
-        (in_groups kind w (calls_of (listed terms.now) w (bound vars.now))
-        (all_chosen w choices.now) (all_shown w args.items)) }
-{
-    by_groups(
-        alloc,
+        way,
         kind,
         args,
         choices,
@@ -259,7 +207,7 @@ fn apply_in_groups<V: TableView>(
 
 // The arguments, from left to right.
 #[cycle(eval)]
-#[tactic(auto, using(reql_sense::proofs::Terms::term_below))]
+#[tactic(auto, using(reql_sense::proofs::Terms::length_listed))]
 fn eval_args<V: TableView>(
     alloc: Global,
     way: Way,
@@ -269,18 +217,41 @@ fn eval_args<V: TableView>(
 ) -> Result<Vec<Arg>, Fault>
     ensures { let w = seen V.documents V.indexes V.entries world.now in
         Gives (λ gs. all_shown w gs.items) result
-        (arguments (taken_by way) 0 (listed terms.now) w (bound vars.now)) }
+        (arguments_of (taken_by way) 0 (listed terms.now) w (bound vars.now)) }
 {
-    let mut found = Vec::new(alloc);
-    for term in terms {
-        let at = found.len();
-        let arg = eval_taken(alloc, way, term, at, world, vars)?;
-        found.push(arg)?;
-    }
-    Ok(found)
+    arguments(
+        alloc,
+        terms.len(),
+        &|at: usize|
+            ensures { let w = seen V.documents V.indexes V.entries world.entry.now in
+                Gives (shown w) result
+                (taken_at (taken_by way) (listed terms.entry.now) at w (bound vars.entry.now)) }
+        { eval_taken_at(alloc, way, terms, at, world, vars) },
+    )
 }
 
 // The argument at a place.
+#[cycle(eval)]
+#[tactic(auto, using(reql_sense::proofs::Terms::term_below, reql_sense::proofs::Terms::slot_within, reql_sense::proofs::Terms::slot_past))]
+fn eval_taken_at<V: TableView>(
+    alloc: Global,
+    way: Way,
+    terms: &[Term],
+    at: usize,
+    world: &World<V>,
+    vars: &Vars,
+) -> Result<Arg, Fault>
+    ensures { let w = seen V.documents V.indexes V.entries world.now in
+        Gives (shown w) result
+        (taken_at (taken_by way) (listed terms.now) at w (bound vars.now)) }
+{
+    if at < terms.len() {
+        return eval_taken(alloc, way, &terms[at], at, world, vars);
+    }
+    Err(Fault::QueryLogic(misplaced(alloc)?))
+}
+
+// A term as the argument at a place.
 #[cycle(eval)]
 fn eval_taken<V: TableView>(
     alloc: Global,
@@ -342,7 +313,6 @@ fn eval_arg<V: TableView>(
 
 // A value, or the function that stands at the place.
 #[cycle(eval)]
-#[tactic(auto, using(reql_sense::proofs::Senses::callee_argument, reql_sense::proofs::Senses::value_argument))]
 fn eval_found<V: TableView>(
     alloc: Global,
     term: &Term,
@@ -354,8 +324,8 @@ fn eval_found<V: TableView>(
         Gives (key w) result
         (argument at (sense (form_of term.now)) w (bound vars.now)) }
 {
-    match function_in(term) {
-        Some(_) => Ok(Key::Function(at)),
+    match function_at(term, at) {
+        Some(key) => Ok(key),
         None => {
             let value = eval_term(alloc, term, world, vars)?;
             Ok(Key::Value(value))
@@ -381,8 +351,8 @@ fn eval_options<V: TableView>(
     let mut found = Vec::new(alloc);
     let mut place = 0;
     while let Some((name, term)) = opts.at(place) {
-        let arg = eval_chosen(alloc, way, term, world, vars)?;
         let name = name.copy()?;
+        let arg = eval_chosen(alloc, way, term, world, vars)?;
         found.push(Choice { name, arg })?;
         place += 1;
     }
@@ -578,7 +548,7 @@ fn eval_ordered<V: TableView>(
 
 // AND, OR and BRANCH.
 #[cycle(eval)]
-#[tactic(auto, using(crate::proofs::Terms::first_and_rest))]
+#[tactic(auto, using(reql_sense::proofs::Terms::length_listed))]
 fn eval_lazily<V: TableView>(
     alloc: Global,
     way: Way,
@@ -589,188 +559,36 @@ fn eval_lazily<V: TableView>(
     ensures { let w = seen V.documents V.indexes V.entries world.now in
         Gives (meant w) result (lazy way (listed terms.now) w (bound vars.now)) }
 {
-    match terms {
-        [] => of_nothing(alloc, way),
-        [first, rest @ ..] => eval_first(alloc, way, first, rest, world, vars),
-    }
-}
-
-// By what the first gave.
-#[cycle(eval)]
-fn eval_first<V: TableView>(
-    alloc: Global,
-    way: Way,
-    first: &Term,
-    rest: &[Term],
-    world: &World<V>,
-    vars: &Vars,
-) -> Result<Value, Fault>
-    ensures { let w = seen V.documents V.indexes V.entries world.now in
-        Gives (meant w) result
-        (lazy_first way (sense (form_of first.now)) (listed rest.now) w (bound vars.now)) }
-{
-    let value = eval_term(alloc, first, world, vars)?;
-    eval_on(alloc, way, value, rest, world, vars)
-}
-
-// What the others give by what the first gave, group by group.
-#[cycle(eval)]
-fn eval_on<V: TableView>(
-    alloc: Global,
-    way: Way,
-    value: Value,
-    rest: &[Term],
-    world: &World<V>,
-    vars: &Vars,
-) -> Result<Value, Fault>
-    ensures { let w = seen V.documents V.indexes V.entries world.now in
-        Gives (meant w) result
-        (on_groups_of (tail way (listed rest.now) w (bound vars.now)) (meant w value)) }
-{
-    on_groups(
+    lazily(
         alloc,
-        value,
-        &|found: Value|
+        world.array_limit,
+        way,
+        terms.len(),
+        &|at: usize|
             ensures { let w = seen V.documents V.indexes V.entries world.entry.now in
-                Gives (meant w) result (tail way (listed rest.entry.now) w (bound vars.entry.now)
-                (meant w found)) }
-        { eval_rest(alloc, way, found, rest, world, vars) },
+                Gives (meant w) result
+                (value_at (listed terms.entry.now) at w (bound vars.entry.now)) }
+        { eval_at(alloc, terms, at, world, vars) },
     )
 }
 
-// The same within the limits.
+// The value of the term at a place.
 #[cycle(eval)]
-#[tactic(auto, unfolding(reql_sense::specs::Ways::tail))]
-fn eval_rest<V: TableView>(
-    alloc: Global,
-    way: Way,
-    found: Value,
-    rest: &[Term],
-    world: &World<V>,
-    vars: &Vars,
-) -> Result<Value, Fault>
-    ensures { let w = seen V.documents V.indexes V.entries world.now in
-        Gives (meant w) result
-        (tail way (listed rest.now) w (bound vars.now) (meant w found)) }
-{
-    let last = eval_tail(alloc, way, found, rest, world, vars)?;
-    sized(alloc, world.array_limit, last)
-}
-
-// What the others give by what the first gave.
-#[cycle(eval)]
-fn eval_tail<V: TableView>(
-    alloc: Global,
-    way: Way,
-    found: Value,
-    rest: &[Term],
-    world: &World<V>,
-    vars: &Vars,
-) -> Result<Value, Fault>
-    ensures { let w = seen V.documents V.indexes V.entries world.now in
-        Gives (meant w) result
-        (tail_by way (listed rest.now) w (bound vars.now) (meant w found)) }
-{
-    match way {
-        Way::UntilTrue => chain(alloc, true, found, rest, world, vars),
-        Way::UntilFalse => chain(alloc, false, found, rest, world, vars),
-        Way::Branching => branch_on(alloc, found, rest, world, vars),
-        Way::Defaulting => default_to(alloc, found, rest, world, vars),
-        _ => Err(Fault::QueryLogic(misplaced(alloc)?)),
-    }
-}
-
-// AND and OR, from what the first gave on.
-#[cycle(eval)]
-#[tactic(auto, using(reql_sense::proofs::Terms::term_below))]
-fn chain<V: TableView>(
-    alloc: Global,
-    at: bool,
-    found: Value,
-    terms: &[Term],
-    world: &World<V>,
-    vars: &Vars,
-) -> Result<Value, Fault>
-    ensures { let w = seen V.documents V.indexes V.entries world.now in
-        Gives (meant w) result
-        (chain_of at (listed terms.now) w (bound vars.now) (meant w found)) }
-{
-    let mut value = found;
-    for term in terms {
-        let ends = stops_at(alloc, at, &value)?;
-        if ends {
-            return Ok(value);
-        }
-        value = eval_term(alloc, term, world, vars)?;
-    }
-    Ok(value)
-}
-
-// BRANCH, from what its first test gave on.
-#[cycle(eval)]
-#[tactic(auto, using(reql_sense::proofs::Terms::term_below, reql_sense::proofs::Terms::rest_within))]
-fn branch_on<V: TableView>(
-    alloc: Global,
-    found: Value,
-    terms: &[Term],
-    world: &World<V>,
-    vars: &Vars,
-) -> Result<Value, Fault>
-    ensures { let w = seen V.documents V.indexes V.entries world.now in
-        Gives (meant w) result
-        (branch_on_of (listed terms.now) w (bound vars.now) (meant w found)) }
-{
-    match terms {
-        [] => Err(Fault::QueryLogic(misplaced(alloc)?)),
-        [arm, rest @ ..] => {
-            let passed = is_true_value(alloc, found)?;
-            if passed {
-                return eval_term(alloc, arm, world, vars);
-            }
-            branches(alloc, rest, world, vars)
-        }
-    }
-}
-
-// The arm of the first test that is true, else the last.
-#[cycle(eval)]
-#[tactic(auto, using(reql_sense::proofs::Terms::term_below))]
-fn branches<V: TableView>(
+#[tactic(auto, using(reql_sense::proofs::Terms::term_below, reql_sense::proofs::Terms::slot_within, reql_sense::proofs::Terms::slot_past))]
+fn eval_at<V: TableView>(
     alloc: Global,
     terms: &[Term],
+    at: usize,
     world: &World<V>,
     vars: &Vars,
 ) -> Result<Value, Fault>
     ensures { let w = seen V.documents V.indexes V.entries world.now in
-        Gives (meant w) result (branches_of (listed terms.now) w (bound vars.now)) }
+        Gives (meant w) result (value_at (listed terms.now) at w (bound vars.now)) }
 {
-    let mut rest = terms;
-    while let [test, arm, others @ ..] = rest {
-        let passed = test_term(alloc, test, world, vars)?;
-        if passed {
-            return eval_term(alloc, arm, world, vars);
-        }
-        rest = others;
+    if at < terms.len() {
+        return eval_term(alloc, &terms[at], world, vars);
     }
-    match rest {
-        [last] => eval_term(alloc, last, world, vars),
-        _ => Err(Fault::QueryLogic(misplaced(alloc)?)),
-    }
-}
-
-// Whether a term is true.
-#[cycle(eval)]
-fn test_term<V: TableView>(
-    alloc: Global,
-    term: &Term,
-    world: &World<V>,
-    vars: &Vars,
-) -> Result<bool, Fault>
-    ensures { let w = seen V.documents V.indexes V.entries world.now in
-        Gives (λ b. b) result (tested (sense (form_of term.now)) w (bound vars.now)) }
-{
-    let value = eval_term(alloc, term, world, vars)?;
-    is_true_value(alloc, value)
+    Err(Fault::QueryLogic(misplaced(alloc)?))
 }
 
 // DEFAULT.
@@ -791,9 +609,8 @@ fn eval_default<V: TableView>(
     }
 }
 
-// The first, and the second only where the first is null or is not there.
+// The first, or the second, which is told what is missing.
 #[cycle(eval)]
-#[tactic(auto, unfolding(reql_sense::specs::Ways::tail))]
 fn eval_either<V: TableView>(
     alloc: Global,
     first: &Term,
@@ -805,86 +622,16 @@ fn eval_either<V: TableView>(
         Gives (meant w) result
         (either (sense (form_of first.now)) (sense (form_of second.now)) w (bound vars.now)) }
 {
-    match eval_term(alloc, first, world, vars) {
-        Ok(value) => {
-            let rest = slice::from_ref(second);
-            eval_on(alloc, Way::Defaulting, value, rest, world, vars)
-        }
-        Err(Fault::NonExistence(why)) => if_missing(alloc, second, why, world, vars),
-        Err(fault) => Err(fault),
-    }
-}
-
-// The second, told why the first is not there.
-#[cycle(eval)]
-fn if_missing<V: TableView>(
-    alloc: Global,
-    term: &Term,
-    why: Name,
-    world: &World<V>,
-    vars: &Vars,
-) -> Result<Value, Fault>
-    ensures { let w = seen V.documents V.indexes V.entries world.now in
-        Gives (meant w) result
-        (missing (sense (form_of term.now)) w (bound vars.now) why) }
-{
-    let text = Datum::Text(why.copy()?);
-    let given = give_to(alloc, term, slice::from_ref(&text), world, vars);
-    let value = or_caught(Err(Fault::NonExistence(why)), given)?;
-    sized(alloc, world.array_limit, value)
-}
-
-// DEFAULT, from what the first gave on.
-#[cycle(eval)]
-#[tactic(auto, using(reql_sense::proofs::Terms::term_below))]
-fn default_to<V: TableView>(
-    alloc: Global,
-    found: Value,
-    terms: &[Term],
-    world: &World<V>,
-    vars: &Vars,
-) -> Result<Value, Fault>
-    ensures { let w = seen V.documents V.indexes V.entries world.now in
-        Gives (meant w) result
-        (default_of (listed terms.now) w (bound vars.now) (meant w found)) }
-{
-    match terms {
-        [second] => unless_nothing(alloc, found, second, world, vars),
-        _ => Err(Fault::QueryLogic(misplaced(alloc)?)),
-    }
-}
-
-// The first, unless it is null.
-#[cycle(eval)]
-fn unless_nothing<V: TableView>(
-    alloc: Global,
-    found: Value,
-    term: &Term,
-    world: &World<V>,
-    vars: &Vars,
-) -> Result<Value, Fault>
-    ensures { let w = seen V.documents V.indexes V.entries world.now in
-        Gives (meant w) result
-        (unless_nothing_of (sense (form_of term.now)) w (bound vars.now) (meant w found)) }
-{
-    match something(found) {
-        Some(value) => Ok(value),
-        None => if_null(alloc, term, world, vars),
-    }
-}
-
-// The second, where the first is null.
-#[cycle(eval)]
-fn if_null<V: TableView>(
-    alloc: Global,
-    term: &Term,
-    world: &World<V>,
-    vars: &Vars,
-) -> Result<Value, Fault>
-    ensures { let w = seen V.documents V.indexes V.entries world.now in
-        Gives (meant w) result (if_null_of (sense (form_of term.now)) w (bound vars.now)) }
-{
-    let null = Datum::Null;
-    let given = give_to(alloc, term, slice::from_ref(&null), world, vars);
-    or_caught(Ok(Value::One(Datum::Null)), given)
+    let found = eval_term(alloc, first, world, vars);
+    default_to(
+        alloc,
+        world.array_limit,
+        found,
+        &|values: &[Datum]|
+            ensures { let w = seen V.documents V.indexes V.entries world.entry.now in
+                Gives (meant w) result
+                (given_to (sense (form_of second.entry.now)) w (bound vars.entry.now)
+                (map plain values.now)) }
+        { give_to(alloc, second, values, world, vars) },
+    )
 }

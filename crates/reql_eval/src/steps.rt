@@ -64,7 +64,10 @@ pub(crate) fn out_of_order(alloc: Global, found: Result<Value, Fault>) -> Result
         → Gives (meant w) result (out_of_order_of a) }
 {
     match found {
-        Ok(_) => Err(Fault::QueryLogic(misplaced_order(alloc)?)),
+        Ok(value) => {
+            drop(value);
+            Err(Fault::QueryLogic(misplaced_order(alloc)?))
+        }
         Err(first) => Err(first),
     }
 }

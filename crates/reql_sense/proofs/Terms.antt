@@ -1,9 +1,8 @@
 -- Lists of terms.
-use Rattle.std.proofs.Common.{◌≡◌, ℕ, zero, suc, ◌+◌, ◌-◌, ◌<◌, ◌≤◌, length, get_or, drop, take, take_all, map, List, [], ◌∷◌, Option, Some, None, refl, ap, arith, slice_get}
-use Rattle.reql_term.specs.Form.{Form, weight, fields_weight}
+use Rattle.std.proofs.Common.{◌≡◌, ℕ, zero, suc, ◌+◌, ◌-◌, ◌<◌, ◌≤◌, length, get_or, List, [], ◌∷◌, Some, None, refl, ap, arith, slice_get}
+use Rattle.reql_term.specs.Form.{weight}
 use Rattle.reql_term.specs.View.{form_of}
 use Rattle.reql_term.specs.declared.term.Term.{Term}
-use Rattle.reql_rules.specs.Lists.{Bytes}
 use Rattle.reql_value.specs.Meaning.{sense}
 use Rattle.reql_sense.specs.Bound.{listed, all_weight}
 
@@ -11,22 +10,6 @@ pub term_below : (ts : List Term) (i : ℕ) (d : Term) → i < length ts → wei
 term_below [] i d h = absurd (omega arith)
 term_below (t ∷ ts) zero d h = omega arith
 term_below (t ∷ ts) (suc i) d h = omega (arith, term_below ts i d (omega arith))
-
-pub named_below : (ms : List (Bytes × Form)) (i : ℕ) (m : Bytes × Form) → Some m ≡ slice_get ms i → weight m.1 < fields_weight ms
-named_below [] i m h = cc
-named_below (k ∷ ms) zero m h = let e : m ≡ k = cc in rw e (omega arith)
-named_below (k ∷ ms) (suc i) m h = omega (arith, named_below ms i m h)
-
-taken : (ts : List Term) (n : ℕ) → all_weight (take n ts) ≤ all_weight ts
-taken [] zero = omega arith
-taken [] (suc n) = omega arith
-taken (t ∷ ts) zero = omega arith
-taken (t ∷ ts) (suc n) = omega (arith, taken ts n)
-
-pub rest_within : (ts : List Term) (n : ℕ) → all_weight (take n (drop 1 ts)) ≤ all_weight ts
-rest_within [] zero = omega arith
-rest_within [] (suc n) = omega arith
-rest_within (t ∷ ts) n = omega (arith, taken ts n)
 
 pub length_listed : (ts : List Term) → length (listed ts) ≡ length ts
 length_listed [] = refl

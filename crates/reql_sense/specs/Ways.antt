@@ -1,17 +1,16 @@
 -- How an operator takes its arguments, and what the parts of the evaluator mean.
-use Rattle.std.specs.Prelude.{ℕ, nat_eq, List, [], ◌∷◌, Bool, true, false, not, if◌then◌else◌, Option, Some, None, Ok, Err}
+use Rattle.std.specs.Prelude.{ℕ, nat_eq, List, [], ◌∷◌, Bool, true, false, not, if◌then◌else◌, Ok, Err}
 use Rattle.reql_datum.specs.Answer.{Answer, ◌>>=◌, non_existence}
 use Rattle.reql_datum.specs.Plain.{Plain, boolean, text}
-use Rattle.reql_term.specs.declared.op.Op.{Op}
 use Rattle.reql_term.specs.declared.role.Way.{Way}
 use Rattle.reql_term.specs.declared.role.Way.TheVariants as way
-use Rattle.reql_rules.specs.Faults.{misplaced, misplaced_order}
+use Rattle.reql_rules.specs.Faults.{misplaced}
 use Rattle.reql_rules.specs.Lists.{Bytes, each, object_of}
 use Rattle.reql_rules.specs.Types.{truth}
-use Rattle.reql_value.specs.Lazy.{Tail, chain, chained, branch, branch_on, unless_nothing, default, default_to, or_caught, stops, told}
+use Rattle.reql_value.specs.Lazy.{Tail, chain, branch_on, default_to, or_caught, stops, told}
 use Rattle.reql_value.specs.Meaning.{member_datum}
-use Rattle.reql_value.specs.Meant.{Meant, one, Given, Calls, Options}
-use Rattle.reql_value.specs.Sense.{Sense, value, argument, key_argument, arguments, option, index_option, default_option, options, calls_of}
+use Rattle.reql_value.specs.Meant.{Meant, one, Given, Options}
+use Rattle.reql_value.specs.Sense.{Sense, value, argument, key_argument, arguments, option, index_option, default_option, options}
 use Rattle.reql_value.specs.Sequenced.{sized, on_groups}
 use Rattle.reql_value.specs.Wanted.{to_datum}
 use Rattle.reql_value.specs.World.{World, Vars}
@@ -48,18 +47,11 @@ is_taking way.Whole = true
 is_taking way.Raising = true
 is_taking how = false
 
--- DEFAULT, by what its first argument gave
-abbrev pub default_of : List Sense → Tail
-default_of [] w vars m = Err misplaced
-default_of (s ∷ []) w vars m = unless_nothing s w vars m
-default_of (s ∷ t ∷ ss) w vars m = Err misplaced
-
 -- one that evaluates only what it needs
 abbrev pub tail_by : Way → List Sense → Tail
 tail_by way.UntilTrue ss w vars m = chain true ss w vars m
 tail_by way.UntilFalse ss w vars m = chain false ss w vars m
 tail_by way.Branching ss w vars m = branch_on ss w vars m
-tail_by way.Defaulting ss w vars m = default_of ss w vars m
 tail_by how ss w vars m = Err misplaced
 
 unfoldable pub tail : Way → List Sense → World → Vars → Meant → Answer Meant
@@ -84,25 +76,12 @@ is_lazy way.UntilFalse = true
 is_lazy way.Branching = true
 is_lazy how = false
 
-abbrev pub lazily : Way → List Sense → World → Vars → Answer Meant
-lazily way.UntilTrue ss w vars = chained true ss w vars
-lazily way.UntilFalse ss w vars = chained false ss w vars
-lazily way.Branching ss w vars = branch ss w vars
-lazily how ss w vars = Err misplaced
-
 abbrev pub stop_of : Bool → Meant → Answer Bool
 stop_of at m = to_datum m >>= λ d. Ok (stops at d)
-
--- what there is where the value is a stop, else nothing
-abbrev pub stopped : Bool → Meant → Answer (Option Meant)
-stopped at m = to_datum m >>= λ d. Ok (if stops at d then Some m else None)
 
 -- whether a value is true
 abbrev pub truth_of : Meant → Answer Bool
 truth_of m = to_datum m >>= λ d. Ok (truth d)
-
-abbrev pub tested : Sense → World → Vars → Answer Bool
-tested s w vars = value s w vars >>= truth_of
 
 -- DEFAULT of two
 abbrev pub either : Sense → Sense → World → Vars → Answer Meant

@@ -1,25 +1,18 @@
-use Rattle.std.proofs.Common.{◌≡◌, ◌∙◌, refl, sym, ap, arith, rules, Ok, Err, map, length}
-use Rattle.reql_datum.specs.Answer.{non_existence}
-use Rattle.reql_datum.specs.Plain.{null, text}
+use Rattle.std.proofs.Common.{◌≡◌, ◌∙◌, sym, ap, arith, rules, Ok, Err, map, length}
 use Rattle.reql_datum.specs.View.{plain}
 use Rattle.reql_term.specs.View.{form_of}
-use Rattle.reql_value.specs.Lazy.{chain, or_caught, told}
 use Rattle.reql_value.specs.Meaning.{sense}
-use Rattle.reql_value.specs.Meant.{one}
 use Rattle.reql_value.specs.Sense.{options}
-use Rattle.reql_value.specs.Sequenced.{sized}
 use Rattle.reql_value.specs.Table.{rule_of}
-use Rattle.reql_operand.proofs.Steps.{fails_on}
 use Rattle.reql_operand.specs.Seen.{meant, shown, all_chosen}
 use Rattle.reql_operand.specs.Tables.{seen}
 use Rattle.reql_sense.specs.Bound.{bound, listed, optional}
 use Rattle.reql_sense.specs.Ways.{chosen}
 use Rattle.reql_sense.proofs.Objects.{chosen_rising}
 use Rattle.reql_sense.proofs.Senses.{call_function, given_function, late_under}
-use Rattle.reql_eval.proofs.Chains.{no_stop, no_next, on_next}
 use Rattle.reql_eval.proofs.Terms.{named_rest}
-use Rattle.reql_eval.proofs.Ways.{gives_as, array_is, taking_is, taking_ways, lazy_is, lazy_ways, lazy_nothing, either_there, no_default, no_second, first_key, other_count, told_one}
-use Rattle.reql_eval.proofs.cycle.+eval.Goals.{default_to-in_default-via-then-terms-lt1, default_to-in_default-via-else-terms-lt1+else-terms-lt2, eval_default-in_default-via-then-terms-lt2, eval_default-in_default-via-else-terms-lt2+else-terms-lt3}
+use Rattle.reql_eval.proofs.Ways.{gives_as, array_is, taking_is, taking_ways, lazy_is, lazy_ways, no_default, first_key, other_count}
+use Rattle.reql_eval.proofs.cycle.+eval.Goals.{eval_default-in_default-via-then-terms-lt2, eval_default-in_default-via-else-terms-lt2+else-terms-lt3}
 use Rattle.reql_eval.proofs.cycle.+eval.Goals as goal
 
 pub call_body-returns : goal.call_body-returns
@@ -32,29 +25,6 @@ call_term-returns-in-Some g t c =
     let w = seen g.V.TableView.documents g.V.TableView.indexes g.V.TableView.entries c.args.world.now in
     let e = call_function (sense (form_of c.args.term.now)) _ w (bound c.args.vars.now) (map plain c.args.values.now) (sym c.in-Some.ensures.which) in
     rw e (rw (c.as_slice.ensures.ids, c.term.ensures) at c.call_body.ensures)
-
-pub chain-returns-in_err-ends : goal.chain-returns-in_err-ends
-chain-returns-in_err-ends g t c =
-    let w = seen g.V.TableView.documents g.V.TableView.indexes g.V.TableView.entries c.args.world.now in
-    let fails = no_stop c.args.at c.args.terms.now c.loop-term.term-index c.term-item.result w (bound c.args.vars.now) (meant w c.loop-term.value) c.in_err-ends.field-0.0 (chain c.args.at (listed c.args.terms.now) w (bound c.args.vars.now) (meant w c.args.found)) c.loop-term-test.true c.term-item.is (c.in_err-ends.ensures w) c.loop-term.invariant in
-    search (rules, fails)
-
-pub chain-returns-in_err-value : goal.chain-returns-in_err-value
-chain-returns-in_err-value g t c =
-    let w = seen g.V.TableView.documents g.V.TableView.indexes g.V.TableView.entries c.args.world.now in
-    let fails = no_next c.args.at c.args.terms.now c.loop-term.term-index c.term-item.result w (bound c.args.vars.now) (meant w c.loop-term.value) c.in_err-value.field-0.0 (chain c.args.at (listed c.args.terms.now) w (bound c.args.vars.now) (meant w c.args.found)) c.loop-term-test.true c.term-item.is (c.in_ok-ends.ensures w ∙ ap Ok c.if-ends.false) c.in_err-value.ensures c.loop-term.invariant in
-    search (rules, fails)
-
-pub chain-loop-term-preserved : goal.chain-loop-term-preserved
-chain-loop-term-preserved g t c =
-    let w = seen g.V.TableView.documents g.V.TableView.indexes g.V.TableView.entries c.args.world.now in
-    on_next c.args.at c.args.terms.now c.loop-term.term-index c.term-item.result w (bound c.args.vars.now) (meant w c.loop-term.value) (meant w c.in_ok-value.value) (chain c.args.at (listed c.args.terms.now) w (bound c.args.vars.now) (meant w c.args.found)) c.loop-term-test.true c.term-item.is (c.in_ok-ends.ensures w ∙ ap Ok c.if-ends.false) c.in_ok-value.ensures c.loop-term.invariant
-
-pub default_to-returns-in_ok-misplaced-in_default : goal.default_to-returns-in_ok-misplaced-in_default
-default_to-returns-in_ok-misplaced-in_default g t c =
-    let w = seen g.V.TableView.documents g.V.TableView.indexes g.V.TableView.entries c.args.world.now in
-    let one_at_most : length c.args.terms.now ≡ 1 → ⊥ = elim c.in_default.branch [ default_to-in_default-via-then-terms-lt1 u ↦ λ e. search rules | default_to-in_default-via-else-terms-lt1+else-terms-lt2 u ↦ λ e. first_of (search (rules, e), grind arith) ] in
-    no_second c.args.terms.now w (bound c.args.vars.now) (meant w c.args.found) one_at_most ∙ ap Err (sym c.in_ok-misplaced-in_default.ensures)
 
 pub eval_array-returns : goal.eval_array-returns
 eval_array-returns g t c =
@@ -77,20 +47,10 @@ eval_default-returns-in_ok-misplaced-in_default g t c =
     let not_two : length c.args.terms.now ≡ 2 → ⊥ = elim c.in_default.branch [ eval_default-in_default-via-then-terms-lt2 u ↦ λ e. search rules | eval_default-in_default-via-else-terms-lt2+else-terms-lt3 u ↦ λ e. first_of (search (rules, e), grind arith) ] in
     no_default c.args.terms.now w (bound c.args.vars.now) not_two ∙ ap Err (sym c.in_ok-misplaced-in_default.ensures)
 
-pub eval_either-returns-in-Ok : goal.eval_either-returns-in-Ok
-eval_either-returns-in-Ok g t c =
-    let w = seen g.V.TableView.documents g.V.TableView.indexes g.V.TableView.entries c.args.world.now in
-    gives_as (meant w) _ _ _ (either_there (sense (form_of c.args.first.now)) c.args.second.now c.from_ref-rest.result.now w (bound c.args.vars.now) _ c.from_ref-rest.ensures.value c.in-Ok.ensures) c.eval_on.ensures
-
 pub eval_late-returns-in-Some : goal.eval_late-returns-in-Some
 eval_late-returns-in-Some g t c =
     let w = seen g.V.TableView.documents g.V.TableView.indexes g.V.TableView.entries c.args.world.now in
     gives_as (shown w) _ _ _ (late_under (sense (form_of c.args.term.now)) _ w (bound c.args.vars.now) (sym c.in-Some.ensures)) (c.late.ensures w _ c.eval_term.ensures)
-
-pub eval_lazily-returns-in-empty : goal.eval_lazily-returns-in-empty
-eval_lazily-returns-in-empty g t c =
-    let w = seen g.V.TableView.documents g.V.TableView.indexes g.V.TableView.entries c.args.world.now in
-    gives_as (meant w) _ _ _ (lazy_nothing c.args.way c.args.terms.now w (bound c.args.vars.now) (omega arith)) (c.of_nothing.ensures w)
 
 pub eval_options-eval_chosen-requires : goal.eval_options-eval_chosen-requires
 eval_options-eval_chosen-requires g t c =
@@ -113,29 +73,3 @@ give_to-returns-in-Some g t c =
     let w = seen g.V.TableView.documents g.V.TableView.indexes g.V.TableView.entries c.args.world.now in
     let e = given_function (sense (form_of c.args.term.now)) _ w (bound c.args.vars.now) (map plain c.args.values.now) (sym c.in-Some.ensures.which) in
     rw e (rw (c.as_slice.ensures.ids, c.term.ensures) at c.call_body.ensures)
-
-pub if_missing-returns-in_err-value : goal.if_missing-returns-in_err-value
-if_missing-returns-in_err-value g t c =
-    let w = seen g.V.TableView.documents g.V.TableView.indexes g.V.TableView.entries c.args.world.now in
-    let s = sense (form_of c.args.term.now) in
-    let vars = bound c.args.vars.now in
-    let given = told_one s w vars c.from_ref.result.now _ (text c.args.why) c.give_to-given.result c.from_ref.ensures.value (ap text c.in_ok-copy.ensures) c.give_to-given.ensures in
-    let fails = fails_on c.in_err-value.field-0.0 (or_caught (Err (non_existence c.args.why)) (told s w vars (text c.args.why))) (sized w.array_limit) (c.in_err-value.ensures w _ _ refl given) in
-    search (rules, fails)
-
-pub if_missing-returns : goal.if_missing-returns
-if_missing-returns g t c =
-    let w = seen g.V.TableView.documents g.V.TableView.indexes g.V.TableView.entries c.args.world.now in
-    let s = sense (form_of c.args.term.now) in
-    let vars = bound c.args.vars.now in
-    let given = told_one s w vars c.from_ref.result.now _ (text c.args.why) c.give_to-given.result c.from_ref.ensures.value (ap text c.in_ok-copy.ensures) c.give_to-given.ensures in
-    let kept = c.in_ok-value.ensures w (Err (non_existence c.args.why)) (told s w vars (text c.args.why)) refl given in
-    rw kept (c.sized.ensures w)
-
-pub if_null-returns : goal.if_null-returns
-if_null-returns g t c =
-    let w = seen g.V.TableView.documents g.V.TableView.indexes g.V.TableView.entries c.args.world.now in
-    let s = sense (form_of c.args.term.now) in
-    let vars = bound c.args.vars.now in
-    let given = told_one s w vars c.from_ref.result.now _ null c.give_to-given.result c.from_ref.ensures.value refl c.give_to-given.ensures in
-    c.or_caught.ensures w (Ok (one null)) (told s w vars null) refl given

@@ -1,0 +1,23 @@
+-- What is left of a term once its first argument was evaluated, by names that stand alone in clauses.
+use Rattle.std.specs.Prelude.{List, drop, Ok}
+use Rattle.reql_datum.specs.Answer.{Answer, ◌>>=◌}
+use Rattle.reql_datum.specs.Plain.{null}
+use Rattle.reql_term.specs.declared.role.Way.{Way}
+use Rattle.reql_value.specs.Lazy.{unless_nothing, told, or_caught}
+use Rattle.reql_value.specs.Meant.{Meant, one}
+use Rattle.reql_value.specs.Sense.{Sense}
+use Rattle.reql_value.specs.Sequenced.{sized}
+use Rattle.reql_value.specs.World.{World, Vars}
+use Rattle.reql_sense.specs.Ways.{tail}
+
+-- the first of DEFAULT, unless it is null
+unfoldable pub kept : Sense → World → Vars → Meant → Answer Meant
+kept s w vars m = unless_nothing s w vars m >>= sized w.array_limit
+
+-- the second, where the first is null
+abbrev pub if_null : Sense → World → Vars → Answer Meant
+if_null s w vars = or_caught (Ok (one null)) (told s w vars null)
+
+-- the other arguments of AND, OR and BRANCH
+unfoldable pub others : Way → List Sense → World → Vars → Meant → Answer Meant
+others how ss w vars m = tail how (drop 1 ss) w vars m

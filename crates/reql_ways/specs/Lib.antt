@@ -1,0 +1,5 @@
+pub mod Applied
+pub mod Called
+pub mod Kept
+pub mod Lent
+pub mod Ruled
