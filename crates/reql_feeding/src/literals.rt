@@ -30,7 +30,9 @@ pub(crate) fn datum_in(alloc: Global, term: &Term) -> Result<Datum, Fault>
     ensures { Gives plain result (datum_at (form_of term.now)) }
 {
     let given = given_in(term)?;
-    as_datum(alloc, &given)
+    let datum = as_datum(alloc, &given);
+    drop(given);
+    datum
 }
 
 /// The documents that arguments are.
@@ -50,7 +52,9 @@ pub(crate) fn number_in(alloc: Global, term: &Term) -> Result<Whole, Fault>
     ensures { Gives (λ n. n) result (as_number_of (given_in_of (form_of term.now))) }
 {
     let given = given_in(term)?;
-    as_number(alloc, &given)
+    let number = as_number(alloc, &given);
+    drop(given);
+    number
 }
 
 /// The name that a literal is.
@@ -77,11 +81,9 @@ pub(crate) fn text_in(datum: &Datum) -> Option<&Name>
 fn chosen(name: &Name, term: &Term) -> Result<Choice, Memory>
     ensures { (w : Seen) → IfOk result (λ c. choice w c ≡ (name.now, given_in_of (form_of term.now))) }
 {
+    let name = name.copy()?;
     let arg = given_in(term)?;
-    Ok(Choice {
-        name: name.copy()?,
-        arg,
-    })
+    Ok(Choice { name, arg })
 }
 
 /// The optional arguments, once they have their data.
