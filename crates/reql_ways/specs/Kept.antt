@@ -10,11 +10,11 @@ use Rattle.reql_value.specs.Sequenced.{sized}
 use Rattle.reql_value.specs.World.{World, Vars}
 use Rattle.reql_sense.specs.Ways.{tail}
 
--- the first of DEFAULT, unless it is null
+-- DEFAULT where the first is there: it, or the second where it is null, within the limits
 unfoldable pub kept : Sense → World → Vars → Meant → Answer Meant
 kept s w vars m = unless_nothing s w vars m >>= sized w.array_limit
 
--- the second, where the first is null
+-- the second, told of null; null again, where an ERROR without text ends it
 abbrev pub if_null : Sense → World → Vars → Answer Meant
 if_null s w vars = or_caught (Ok (one null)) (told s w vars null)
 

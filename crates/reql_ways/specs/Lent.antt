@@ -36,16 +36,16 @@ taken_of take at (Some s) w vars = take at s w vars
 abbrev pub taken_at : Take → List Sense → ℕ → World → Vars → Answer Given
 taken_at take ss at w vars = taken_of take at (slice_get ss at) w vars
 
--- f gives the value of each of so many terms
+-- f gives the value of each of so many terms, unless memory ran out
 pub record Evaluates (w : World) {F : Type 0} (g : Shared F (ℕ × Unit {0}) (Result Value Fault)) (f : F) (count : ℕ) (ss : List Sense) (vars : Vars) : Type 0 where
   pub answers : (at : ℕ) (r : Result Value Fault) → g.post f (at, tt) r → Gives (meant w) r (value_at ss at w vars)
   pub counted : count ≡ length ss
 
--- f takes each of so many terms as an argument
+-- f takes each of so many terms as an argument, unless memory ran out
 pub record Takes (w : World) {F : Type 0} (g : Shared F (ℕ × Unit {0}) (Result Arg Fault)) (f : F) (take : Take) (count : ℕ) (ss : List Sense) (vars : Vars) : Type 0 where
   pub answers : (at : ℕ) (r : Result Arg Fault) → g.post f (at, tt) r → Gives (shown w) r (taken_at take ss at w vars)
   pub counted : count ≡ length ss
 
--- f gives what a term gives on values
+-- f gives what a function gives on values, or what another term gives, unless memory ran out
 pub record Tells (w : World) {F : Type 0} (g : Shared F (Bor (List Datum) × Unit {0}) (Result Value Fault)) (f : F) (s : Sense) (vars : Vars) : Type 0 where
   pub answers : (xs : Bor (List Datum)) (r : Result Value Fault) → g.post f (xs, tt) r → Gives (meant w) r (given_to s w vars (map plain xs.now))

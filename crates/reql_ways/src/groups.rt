@@ -232,7 +232,8 @@ fn ungrouped<V: TableView, F: Fn(usize, &[Datum]) -> Result<Value, Fault>>(
     at_once(alloc, op, args, opts, world, call)
 }
 
-// The same; where the first argument is grouped, on the members of each group.
+// An operator by its rule, within the limits; where the first argument is grouped, on the members
+// of each group.
 fn by_groups<V: TableView, F: Fn(usize, &[Datum]) -> Result<Value, Fault>>(
     alloc: Global,
     op: Kind,
