@@ -25,6 +25,16 @@ impl Model for Name {
     ghost view = { λ a. arc_str_bytes a.chars };
 }
 
+// How two texts stand by their bytes. Most differ in the first one, which is looked at before all.
+pub(crate) fn text_order(a: &str, b: &str) -> Ordering
+    ensures { result ≡ text_order a.now b.now }
+{
+    match (a.as_bytes().first(), b.as_bytes().first()) {
+        (Some(x), Some(y)) if x != y => x.cmp(y),
+        _ => a.cmp(b),
+    }
+}
+
 impl Name {
     /// A text of its own. Code that makes many like objects copies their names instead.
     pub fn of(alloc: Global, text: &str) -> Result<Name, Memory>
@@ -48,7 +58,7 @@ impl Name {
         ensures meaning { MatchOrdering result (text_less self.now text.now) (self.now ≡ text.now)
             (text_less text.now self.now) }
     {
-        self.as_str().cmp(text)
+        text_order(self.as_str(), text)
     }
 
     /// An equal name that shares the text. Memory where the count of sharers is full.

@@ -6,7 +6,7 @@ ghost use Rattle.reql_datum.specs.Shapes.{shape_of, member_shape, members_shape,
 ghost use Rattle.reql_datum.specs.View.{plain, member};
 
 use crate::datum::{Datum, Field, Items};
-use crate::name::Name;
+use crate::name::{Name, text_order};
 
 /// How deep the members of a list or an object are, told as 2^32 - 1 where it is more, and whether
 /// all may be stored.
@@ -51,7 +51,7 @@ pub(crate) fn member_shape(name: &Name, value: &Datum) -> Shape
     let shape = value.shape();
     Shape {
         depth: shape.depth,
-        storable: !"$reql_type$".cmp(name.as_str()).is_eq() && shape.storable,
+        storable: !text_order("$reql_type$", name.as_str()).is_eq() && shape.storable,
     }
 }
 
