@@ -11,3 +11,7 @@ pub mod First
 pub mod Back
 pub mod Held
 pub mod Whole
+pub mod Tokens
+pub mod Numerals
+pub mod Straight
+pub mod Settled

@@ -1,7 +1,8 @@
 -- Ids that are none of those before.
-use Rattle.std.proofs.Common.{◌≡◌, ℕ, suc, ◌+◌, ◌<◌, List, [], ◌∷◌, ◌++◌, length, get_or, drop, Bool, true, false, ◌&&◌, not, cond, nat_eq, Result, Ok, refl, sym, ap, ◌∙◌, arith, add-one}
+use Rattle.std.proofs.Common.{◌≡◌, ℕ, suc, ◌+◌, ◌<◌, List, [], ◌∷◌, ◌++◌, length, get_or, drop, Bool, true, false, ◌&&◌, ◌||◌, not, cond, nat_eq, Result, Ok, refl, sym, ap, ◌∙◌, arith, add-one}
 use Rattle.std.proofs.Math.Seq.{drop-cons}
 use Rattle.std.proofs.lemmas.Bool.Decides.{nat_tests}
+use Rattle.std.specs.List.{list_any}
 use Rattle.std.specs.Cmp.{unsigned_tied}
 use Rattle.std.specs.BTreeMap.{is_at}
 use Rattle.std.specs.Ordering.{nat_cmp}
@@ -63,3 +64,11 @@ ids_step whole items i v id ids new known below here is first added =
     let later = λ (xs : List ℕ). ids_among xs (items_view (drop (suc i) items)) in
     let step : ids_among ids (items_view (v ∷ drop (suc i) items)) ≡ later (ids ++ id ∷ []) = rw (is, first) refl in
     rw add-one (known ∙ ap (λ vs. ids_among ids (items_view vs)) split ∙ step ∙ ap later (sym added))
+
+neither : (a b c : Bool) → not b ≡ c → not (a || b) ≡ (not a && c)
+neither true b c h = refl
+neither false b c h = h
+
+pub none_of : (id : ℕ) (ids : List ℕ) → not (list_any (λ k. nat_eq k id) ids) ≡ is_new id ids
+none_of id [] = refl
+none_of id (k ∷ ks) = neither (nat_eq k id) _ _ (none_of id ks)

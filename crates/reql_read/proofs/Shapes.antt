@@ -17,7 +17,7 @@ use Rattle.reql_read.proofs.Understood.{inside, bound, then_done, then_failed, i
 
 -- ---- a term is its parts
 
-abbrev by_parts : ℕ × (Items × Members) → Result Written ReadFault
+abbrev pub by_parts : ℕ × (Items × Members) → Result Written ReadFault
 by_parts p = written p.0 p.1.0 p.1.1
 
 joined : (a : Result ℕ ReadFault) (f : ℕ → Result (ℕ × (Items × Members)) ReadFault) (g : ℕ → Result Written ReadFault) → ((n : ℕ) → g n ≡ (f n >>= by_parts)) → (a >>= g) ≡ ((a >>= f) >>= by_parts)

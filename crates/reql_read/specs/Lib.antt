@@ -11,3 +11,4 @@ pub mod Apart
 pub mod Seen
 pub mod View
 pub mod Weight
+pub mod Quick

@@ -13,7 +13,7 @@ use std::alloc::Global;
 
 /// The operator of a number.
 #[tactic(auto, unfolding(crate::specs::Reading::op_named))]
-fn op_named(number: u64) -> Result<Op, ReadFault>
+pub(crate) fn op_named(number: u64) -> Result<Op, ReadFault>
     ensures { Understands (λ op. op) result (op_named number) }
 {
     if number < 1 || number > 255 {
@@ -27,7 +27,7 @@ fn op_named(number: u64) -> Result<Op, ReadFault>
 
 /// Refuses a wrong count of arguments.
 #[tactic(auto, unfolding(crate::specs::Reading::counted))]
-fn counted(op: Op, count: usize) -> Result<(), ReadFault>
+pub(crate) fn counted(op: Op, count: usize) -> Result<(), ReadFault>
     ensures { Understands (λ t. t) result (counted op count) }
 {
     if op.fits(count) {

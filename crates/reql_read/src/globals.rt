@@ -246,7 +246,7 @@ fn with_option(
     Ok(settings)
 }
 
-fn usual(alloc: Global) -> Result<Settings, Memory>
+pub(crate) fn usual(alloc: Global) -> Result<Settings, Memory>
     ensures { IfOk result (λ s. s ≡ usual) }
 {
     Ok(Settings {

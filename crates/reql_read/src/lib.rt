@@ -7,6 +7,7 @@ mod globals;
 mod ids;
 mod laws;
 mod query;
+mod quick;
 mod read;
 mod shape;
 mod texts;

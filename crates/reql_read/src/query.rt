@@ -9,6 +9,7 @@ ghost use Rattle.reql_read.specs.View.{asked, UnderstandsBody, IsTold};
 
 use crate::fault::ReadFault;
 use crate::globals::{Settings, is_number, settings_of};
+use crate::quick::quick;
 use crate::read::read;
 use crate::shape::{items_in, number_in, options_in, shaped};
 use reql_datum::Name;
@@ -179,6 +180,9 @@ pub fn read_query(alloc: Global, body: &[u8]) -> Result<Query, Unread>
     ensures query { UnderstandsBody result (query_text body.now) }
     ensures noreply { IfErr result (IsTold (text_is_quiet body.now)) }
 {
+    if let Some(query) = quick(alloc, body) {
+        return Ok(query);
+    }
     match Value::from_slice(alloc, body) {
         Err(e) if e.is_memory() => Err(Unread {
             fault: ReadFault::Memory,

@@ -40,7 +40,7 @@ fn reserved(alloc: Global, members: &Map<String, Value>) -> Result<Term, ReadFau
     }
 }
 
-fn item_like(like: Option<&Term>, place: usize) -> Option<&Term> {
+pub(crate) fn item_like(like: Option<&Term>, place: usize) -> Option<&Term> {
     match like {
         Some(Term::Arr(terms)) => terms.at(place),
         Some(
