@@ -11,7 +11,7 @@ ghost use Rattle.reql_plan_law.specs.Move.{run};
 ghost use Rattle.reql_plan_law.specs.Request.{ends, asks};
 ghost use Rattle.reql_moves.specs.Heard.{heard};
 ghost use Rattle.reql_stages.specs.Rest.{feeds_rest, feed_answer, opens_rest};
-ghost use Rattle.reql_stages.specs.Turn.{Turns};
+ghost use Rattle.reql_stages.specs.Turn.{Turns, lost_request};
 
 use crate::closing::closing;
 use crate::opened::{copied_opening, copied_spec, name_or_empty, opened_as};
@@ -132,6 +132,14 @@ fn feeds_told<V: TableView + Drop>(
     Ok(Turn::Done(Answered::Feed { arms, notes, items }))
 }
 
+// What no answer to a move calls for, with the feed's request that is let go.
+fn lost_feed<V: TableView + Drop>(alloc: Global, opening: Opening) -> Result<Turn<V>, Memory>
+    ensures { Turns V.documents V.indexes V.entries result lost_request }
+{
+    drop(opening);
+    lost(alloc)
+}
+
 // What a feed that was asked for was answered.
 pub(crate) fn opened<V: TableView + Drop>(
     alloc: Global,
@@ -151,18 +159,18 @@ pub(crate) fn opened<V: TableView + Drop>(
         Found::Ran(reply) => opened_if(alloc, e, feeding, opening, before, place, reply),
         Found::Names(other) => {
             drop(other);
-            lost(alloc)
+            lost_feed(alloc, opening)
         }
-        Found::Told(_) => lost(alloc),
+        Found::Told(_) => lost_feed(alloc, opening),
         Found::Look(other) => {
             drop(other);
-            lost(alloc)
+            lost_feed(alloc, opening)
         }
         Found::Changed(other) => {
             drop(other);
-            lost(alloc)
+            lost_feed(alloc, opening)
         }
-        Found::Rolled(_) => lost(alloc),
+        Found::Rolled(_) => lost_feed(alloc, opening),
     }
 }
 
@@ -189,10 +197,16 @@ fn opened_if<V: TableView + Drop>(
     match saved {
         Saved::Yes => opened_by(alloc, e, feeding, opening, before, place, stamp, said),
         Saved::Failed => {
+            drop(said);
+            drop(opening);
             let text = Name::of(alloc, "Journal failed.")?;
             Ok(Turn::Done(Answered::Fault(Fault::OpFailed(text))))
         }
-        Saved::Memory => Ok(Turn::Done(Answered::Fault(Fault::Memory))),
+        Saved::Memory => {
+            drop(said);
+            drop(opening);
+            Ok(Turn::Done(Answered::Fault(Fault::Memory)))
+        }
     }
 }
 
@@ -223,31 +237,43 @@ fn opened_by<V: TableView + Drop>(
                 stamp,
                 opening: first,
             };
+            drop(opening);
             opened_as(alloc, e, feeding, before, place, new)
         }
         Said::IndexMissing => {
             let name = name_or_empty(alloc, &opening.spec.index)?;
+            drop(opening);
             closing(alloc, e, Refusal::NoIndex(name), before, 0)
         }
-        Said::FeedsFull { count: _ } => closing(alloc, e, Refusal::FeedsFull, before, 0),
-        Said::HistoryFull { count: _ } => closing(alloc, e, Refusal::HistoryFull, before, 0),
-        Said::Gone => closing(alloc, e, Refusal::Dropped(opening.slot), before, 0),
+        Said::FeedsFull { count: _ } => {
+            drop(opening);
+            closing(alloc, e, Refusal::FeedsFull, before, 0)
+        }
+        Said::HistoryFull { count: _ } => {
+            drop(opening);
+            closing(alloc, e, Refusal::HistoryFull, before, 0)
+        }
+        Said::Gone => {
+            let slot = opening.slot;
+            drop(opening);
+            closing(alloc, e, Refusal::Dropped(slot), before, 0)
+        }
         Said::Done(other) => {
             drop(other);
-            lost(alloc)
+            lost_feed(alloc, opening)
         }
-        Said::Changed => lost(alloc),
-        Said::IndexExists => lost(alloc),
+        Said::Changed => lost_feed(alloc, opening),
+        Said::IndexExists => lost_feed(alloc, opening),
         Said::Batch {
             skipped: _,
             last: _,
             items,
         } => {
             drop(items);
-            lost(alloc)
+            lost_feed(alloc, opening)
         }
-        Said::Nothing => lost(alloc),
-        Said::FeedUnknown { feed: _ } => lost(alloc),
-        Said::Closed => lost(alloc),
+        Said::Nothing => lost_feed(alloc, opening),
+        Said::FeedUnknown { feed: _ } => lost_feed(alloc, opening),
+        Said::Closed => lost_feed(alloc, opening),
     }
 }

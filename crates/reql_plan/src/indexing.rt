@@ -8,7 +8,7 @@ ghost use Rattle.reql_plan_law.specs.Course.{change_table, reply_heard, table_sa
 ghost use Rattle.reql_plan_law.specs.Move.{run, ran};
 ghost use Rattle.reql_plan_law.specs.Request.{ends, asks};
 ghost use Rattle.reql_moves.specs.Heard.{heard};
-ghost use Rattle.reql_stages.specs.Turn.{Turns};
+ghost use Rattle.reql_stages.specs.Turn.{Turns, lost_request};
 
 use reql_datum::{Fault, Memory};
 use reql_held::Held;
@@ -94,19 +94,27 @@ pub(crate) fn replied<V: TableView + Drop>(
         Found::Ran(reply) => replied_by(alloc, e, command, reply),
         Found::Names(other) => {
             drop(other);
-            lost(alloc)
+            lost_command(alloc, command)
         }
-        Found::Told(_) => lost(alloc),
+        Found::Told(_) => lost_command(alloc, command),
         Found::Look(other) => {
             drop(other);
-            lost(alloc)
+            lost_command(alloc, command)
         }
         Found::Changed(other) => {
             drop(other);
-            lost(alloc)
+            lost_command(alloc, command)
         }
-        Found::Rolled(_) => lost(alloc),
+        Found::Rolled(_) => lost_command(alloc, command),
     }
+}
+
+// What no answer to a move calls for, with the command that is let go.
+fn lost_command<V: TableView + Drop>(alloc: Global, command: Commanded) -> Result<Turn<V>, Memory>
+    ensures { Turns V.documents V.indexes V.entries result lost_request }
+{
+    drop(command);
+    lost(alloc)
 }
 
 #[tactic(auto, using(reql_stages::proofs::Saying::kept_on))]
@@ -121,8 +129,15 @@ fn replied_by<V: TableView + Drop>(
         (λ x. table_said command x ends)) }
 {
     match kept_by(alloc, &e.names, command.slot, reply)? {
-        Kept::Said(said) => said_of_table(alloc, &command, said),
-        Kept::Ends(answered) => Ok(Turn::Done(answered)),
+        Kept::Said(said) => {
+            let turn = said_of_table(alloc, &command, said);
+            drop(command);
+            turn
+        }
+        Kept::Ends(answered) => {
+            drop(command);
+            Ok(Turn::Done(answered))
+        }
     }
 }
 

@@ -10,11 +10,12 @@ ghost use Rattle.reql_moves.specs.Heard.{heard};
 ghost use Rattle.reql_stages.specs.Turn.{Turns};
 
 use crate::carrying::carried;
+use crate::opening::lost_asked;
 use reql_datum::{Memory, Seq};
 use reql_held::{Read, hold, with_view};
 use reql_law::Look;
 use reql_moves::{Ask, Found};
-use reql_stages::{Asked, Stage, Turn, asks, dropped, lost};
+use reql_stages::{Asked, Stage, Turn, asks, dropped};
 use reql_term::TableView;
 use std::alloc::Global;
 
@@ -65,8 +66,17 @@ fn opened<V: TableView + Drop>(
         names,
         term,
     } = asked;
-    let e = hold(alloc, &plan, setting, names, read)?;
-    carried(alloc, e, &term)
+    match hold(alloc, &plan, setting, names, read) {
+        Ok(e) => {
+            let turn = carried(alloc, e, &term);
+            drop(term);
+            turn
+        }
+        Err(why) => {
+            drop(term);
+            Err(why)
+        }
+    }
 }
 
 // What a look found.
@@ -88,11 +98,20 @@ pub(crate) fn looked<V: TableView + Drop>(
 {
     match found {
         Found::Look(look) => sighted(alloc, asked, read, slot, slots, place, look),
-        Found::Names(_) => lost(alloc),
-        Found::Told(_) => lost(alloc),
-        Found::Ran(_) => lost(alloc),
-        Found::Changed(_) => lost(alloc),
-        Found::Rolled(_) => lost(alloc),
+        Found::Names(other) => {
+            drop(other);
+            lost_asked(alloc, asked)
+        }
+        Found::Told(_) => lost_asked(alloc, asked),
+        Found::Ran(other) => {
+            drop(other);
+            lost_asked(alloc, asked)
+        }
+        Found::Changed(other) => {
+            drop(other);
+            lost_asked(alloc, asked)
+        }
+        Found::Rolled(_) => lost_asked(alloc, asked),
     }
 }
 
@@ -119,10 +138,17 @@ fn sighted<V: TableView + Drop>(
         view,
     } = look;
     match view {
-        Some(view) => {
-            let read = with_view(alloc, &asked.names, read, slot, at, stamp, view)?;
-            reading(alloc, asked, read, slots, place)
+        Some(view) => match with_view(alloc, &asked.names, read, slot, at, stamp, view) {
+            Ok(read) => reading(alloc, asked, read, slots, place),
+            Err(why) => {
+                drop(asked);
+                Err(why)
+            }
+        },
+        None => {
+            let turn = dropped(alloc, &asked.names, slot);
+            drop(asked);
+            turn
         }
-        None => dropped(alloc, &asked.names, slot),
     }
 }

@@ -7,7 +7,7 @@ ghost use Rattle.reql_plan_law.specs.Request.{ends};
 ghost use Rattle.reql_datum.specs.Outcome.{Gives};
 ghost use Rattle.reql_moves.specs.Heard.{heard};
 ghost use Rattle.reql_stages.specs.Rest.{moment_rest};
-ghost use Rattle.reql_stages.specs.Turn.{Turns};
+ghost use Rattle.reql_stages.specs.Turn.{Turns, lost_request};
 
 use crate::looking::reading;
 use reql_catalog::Names;
@@ -33,9 +33,18 @@ pub(crate) fn named<V: TableView + Drop>(
     match found {
         Found::Names(names) => resolving(alloc, plan, setting, names),
         Found::Told(_) => lost(alloc),
-        Found::Look(_) => lost(alloc),
-        Found::Ran(_) => lost(alloc),
-        Found::Changed(_) => lost(alloc),
+        Found::Look(other) => {
+            drop(other);
+            lost(alloc)
+        }
+        Found::Ran(other) => {
+            drop(other);
+            lost(alloc)
+        }
+        Found::Changed(other) => {
+            drop(other);
+            lost(alloc)
+        }
         Found::Rolled(_) => lost(alloc),
     }
 }
@@ -76,6 +85,7 @@ fn determined<V: TableView + Drop>(alloc: Global, asked: Asked) -> Result<Turn<V
         (λ f. at_moment asked.plan asked.setting asked.names f ends)) }
 {
     if leaks(&asked.term) {
+        drop(asked);
         let text = Name::of(alloc, "Could not prove argument deterministic.")?;
         return Ok(Turn::Done(Answered::Fault(Fault::QueryLogic(text))));
     }
@@ -103,12 +113,24 @@ pub(crate) fn told<V: TableView + Drop>(
         (moment_rest asked.plan asked.setting asked.names (form_of asked.term))) }
 {
     match found {
-        Found::Names(_) => lost(alloc),
         Found::Told(moment) => told_at(alloc, asked, moment),
-        Found::Look(_) => lost(alloc),
-        Found::Ran(_) => lost(alloc),
-        Found::Changed(_) => lost(alloc),
-        Found::Rolled(_) => lost(alloc),
+        Found::Names(other) => {
+            drop(other);
+            lost_asked(alloc, asked)
+        }
+        Found::Look(other) => {
+            drop(other);
+            lost_asked(alloc, asked)
+        }
+        Found::Ran(other) => {
+            drop(other);
+            lost_asked(alloc, asked)
+        }
+        Found::Changed(other) => {
+            drop(other);
+            lost_asked(alloc, asked)
+        }
+        Found::Rolled(_) => lost_asked(alloc, asked),
     }
 }
 
@@ -123,6 +145,7 @@ fn told_at<V: TableView + Drop>(
     match moment {
         Some(moment) => in_range(alloc, asked, moment),
         None => {
+            drop(asked);
             let text = Name::of(alloc, "Clock failed.")?;
             Ok(Turn::Done(Answered::Fault(Fault::OpFailed(text))))
         }
@@ -142,6 +165,7 @@ fn in_range<V: TableView + Drop>(
     match Whole::new(moment) {
         Some(whole) => placed(alloc, asked, whole),
         None => {
+            drop(asked);
             let text = Name::of(alloc, "Number outside the range of whole numbers.")?;
             Ok(Turn::Done(Answered::Fault(Fault::QueryLogic(text))))
         }
@@ -160,7 +184,10 @@ fn placed<V: TableView + Drop>(
 {
     match with_now(alloc, &moment, &asked.term) {
         Ok(term) => begin_reading(alloc, with_term(asked, term)),
-        Err(why) => refused(why),
+        Err(why) => {
+            drop(asked);
+            refused(why)
+        }
     }
 }
 
@@ -189,6 +216,22 @@ fn begin_reading<V: TableView + Drop>(alloc: Global, asked: Asked) -> Result<Tur
     ensures { Turns V.documents V.indexes V.entries result
         (read asked.plan asked.setting asked.names (form_of asked.term) ends) }
 {
-    let slots = read_slots(alloc, &asked.term)?;
-    reading(alloc, asked, nothing_read(alloc), slots, 0)
+    match read_slots(alloc, &asked.term) {
+        Ok(slots) => reading(alloc, asked, nothing_read(alloc), slots, 0),
+        Err(why) => {
+            drop(asked);
+            Err(why)
+        }
+    }
+}
+
+/// What no answer to a move calls for, with the request that is let go.
+pub(crate) fn lost_asked<V: TableView + Drop>(
+    alloc: Global,
+    asked: Asked,
+) -> Result<Turn<V>, Memory>
+    ensures { Turns V.documents V.indexes V.entries result lost_request }
+{
+    drop(asked);
+    lost(alloc)
 }

@@ -46,6 +46,7 @@ fn shown_as<V: TableView + Drop>(
             if fits_in(e, items.len()) {
                 return Ok(Turn::Done(Answered::Sequence(items)));
             }
+            drop(items);
             let text = Name::of(alloc, "Too many cursors.")?;
             Ok(Turn::Done(Answered::Fault(Fault::ResourceLimit(text))))
         }

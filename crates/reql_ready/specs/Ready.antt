@@ -21,13 +21,18 @@ inserted e t m os = do
   hard ← hard_option os
   Ok (prepare e n (act.Insert docs c []) r hard (lacking (key_of e.names n) docs))
 
+-- the same, before its options are evaluated
+abbrev pub choosing : Held → Meant → Meant → NamedForms → Answer Prepared
+choosing e t m ms = do
+  os ← options_given e.world ms
+  inserted e t m os
+
 -- an INSERT into what its first argument gave
 abbrev pub filling : Held → Meant → Forms → NamedForms → Answer Prepared
 filling e t fs ms = do
   g ← there (second fs)
   m ← meant_of e.world g
-  os ← options_given e.world ms
-  inserted e t m os
+  choosing e t m ms
 
 -- a write of rows with its options
 abbrev pub changed : Held → ℕ → Act → NamedForms → Answer Prepared

@@ -22,7 +22,9 @@ fn members_of(alloc: Global, datum: &Datum) -> Result<Fields, Fault>
     ensures { Gives (λ fields. fields) result (as_object_of (plain datum.now)) }
 {
     let value = Value::One(datum.copy()?);
-    to_object(alloc, &value)
+    let members = to_object(alloc, &value);
+    drop(value);
+    members
 }
 
 // A document that is to be inserted: an object.

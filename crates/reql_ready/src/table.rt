@@ -37,18 +37,17 @@ fn created<V: TableView>(
     let key = key_field(alloc, &request.names, slot)?;
     fresh(alloc, key.as_str(), name)?;
     let multi = truth_option(alloc, "multi", given)?;
-    let index = IndexDef {
-        name: Name::of(alloc, name)?,
-        func,
-        multi,
-    };
+    let label = Name::of(alloc, "created")?;
+    let present = Name::of(alloc, name)?;
+    let missing = Name::of(alloc, "")?;
+    let name = Name::of(alloc, name)?;
     Ok(Commanded {
         slot,
-        cmd: TableCmd::IndexCreate(index),
-        label: Name::of(alloc, "created")?,
+        cmd: TableCmd::IndexCreate(IndexDef { name, func, multi }),
+        label,
         count: 1,
-        present: Name::of(alloc, name)?,
-        missing: Name::of(alloc, "")?,
+        present,
+        missing,
     })
 }
 
@@ -81,7 +80,9 @@ fn creating_index<V: TableView>(
 {
     let place = first(alloc, args)?;
     let table = target(alloc, &request.world, place)?;
-    indexing(alloc, request, &table, args, opts)
+    let command = indexing(alloc, request, &table, args, opts);
+    drop(table);
+    command
 }
 
 // INDEX_DROP on a table.
@@ -98,13 +99,17 @@ fn dropped<V: TableView>(
     let slot = slot_in(alloc, table)?;
     let name = name_at(second_at(args));
     ruled(alloc, name)?;
+    let label = Name::of(alloc, "dropped")?;
+    let present = Name::of(alloc, "")?;
+    let missing = Name::of(alloc, name)?;
+    let name = Name::of(alloc, name)?;
     Ok(Commanded {
         slot,
-        cmd: TableCmd::IndexDrop(Name::of(alloc, name)?),
-        label: Name::of(alloc, "dropped")?,
+        cmd: TableCmd::IndexDrop(name),
+        label,
         count: 1,
-        present: Name::of(alloc, "")?,
-        missing: Name::of(alloc, name)?,
+        present,
+        missing,
     })
 }
 
@@ -118,7 +123,9 @@ fn dropping_index<V: TableView>(
 {
     let place = first(alloc, args)?;
     let table = target(alloc, &request.world, place)?;
-    dropped(alloc, &request.world, &table, args)
+    let command = dropped(alloc, &request.world, &table, args);
+    drop(table);
+    command
 }
 
 // How many names change.
@@ -149,17 +156,23 @@ fn renamed<V: TableView>(
     let key = key_field(alloc, &request.names, slot)?;
     fresh(alloc, key.as_str(), new)?;
     let overwrite = truth_option(alloc, "overwrite", given)?;
+    let count = times(same_text(old, new));
+    let label = Name::of(alloc, "renamed")?;
+    let present = Name::of(alloc, new)?;
+    let missing = Name::of(alloc, old)?;
+    let old = Name::of(alloc, old)?;
+    let new = Name::of(alloc, new)?;
     Ok(Commanded {
         slot,
         cmd: TableCmd::IndexRename {
-            old: Name::of(alloc, old)?,
-            new: Name::of(alloc, new)?,
+            old,
+            new,
             overwrite,
         },
-        label: Name::of(alloc, "renamed")?,
-        count: times(same_text(old, new)),
-        present: Name::of(alloc, new)?,
-        missing: Name::of(alloc, old)?,
+        label,
+        count,
+        present,
+        missing,
     })
 }
 
@@ -192,7 +205,9 @@ fn renaming_index<V: TableView>(
 {
     let place = first(alloc, args)?;
     let table = target(alloc, &request.world, place)?;
-    renaming(alloc, request, &table, args, opts)
+    let command = renaming(alloc, request, &table, args, opts);
+    drop(table);
+    command
 }
 
 // SYNC of a table.
@@ -205,13 +220,16 @@ fn sync_of<V: TableView>(
         (seen V.documents V.indexes V.entries _world.now) table.now)) }
 {
     let slot = slot_in(alloc, table)?;
+    let label = Name::of(alloc, "synced")?;
+    let present = Name::of(alloc, "")?;
+    let missing = Name::of(alloc, "")?;
     Ok(Commanded {
         slot,
         cmd: TableCmd::Sync,
-        label: Name::of(alloc, "synced")?,
+        label,
         count: 1,
-        present: Name::of(alloc, "")?,
-        missing: Name::of(alloc, "")?,
+        present,
+        missing,
     })
 }
 
@@ -221,7 +239,9 @@ fn syncing<V: TableView>(alloc: Global, request: &Held<V>, args: &Terms) -> Resu
 {
     let place = first(alloc, args)?;
     let table = target(alloc, &request.world, place)?;
-    sync_of(alloc, &request.world, &table)
+    let command = sync_of(alloc, &request.world, &table);
+    drop(table);
+    command
 }
 
 /// The command on a table that an operator gives with its arguments.

@@ -6,7 +6,7 @@ ghost use Rattle.reql_term.specs.View.{form_of};
 ghost use Rattle.reql_operand.specs.Seen.{choice, meant};
 ghost use Rattle.reql_plan_law.specs.Writes.{inserting as inserting_of, prepared as prepared_of, prepared_by as prepared_by_of, act_with as act_with_of, with_keys as with_keys_of};
 ghost use Rattle.reql_held.specs.Seen.{held};
-ghost use Rattle.reql_ready.specs.Ready.{filling as filling_of, inserted as inserted_of};
+ghost use Rattle.reql_ready.specs.Ready.{filling as filling_of, choosing as choosing_of, inserted as inserted_of};
 
 use crate::changes::{deleting, prepare, replacing, updating};
 use crate::documents::{docs_in, lacking};
@@ -66,7 +66,9 @@ fn inserting<V: TableView>(
 {
     let place = first(alloc, args)?;
     let table = target(alloc, &request.world, place)?;
-    filling(alloc, request, &table, args, opts)
+    let ready = filling(alloc, request, &table, args, opts);
+    drop(table);
+    ready
 }
 
 // An INSERT once its table is found.
@@ -83,8 +85,25 @@ fn filling<V: TableView>(
 {
     let given = second(alloc, args)?;
     let value = meant_of(alloc, &request.world, given)?;
+    let ready = choosing(alloc, request, table, &value, opts);
+    drop(value);
+    ready
+}
+
+// An INSERT once what it puts in is evaluated.
+fn choosing<V: TableView>(
+    alloc: Global,
+    request: &Held<V>,
+    table: &Value,
+    value: &Value,
+    opts: &TermFields,
+) -> Result<Prepared, Fault>
+    ensures { let e = held V.documents V.indexes V.entries request.now in
+        Gives (λ p. p) result (choosing_of e (meant e.world table.now) (meant e.world value.now)
+        (named_of opts.now)) }
+{
     let chosen = options_given(alloc, &request.world, opts)?;
-    inserted(alloc, request, table, &value, &chosen)
+    inserted(alloc, request, table, value, &chosen)
 }
 
 // An INSERT once its arguments are evaluated.
