@@ -13,6 +13,7 @@ mod moment;
 mod name;
 mod point;
 mod shape;
+mod short;
 mod whole;
 
 pub use blob::Blob;

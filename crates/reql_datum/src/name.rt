@@ -4,25 +4,34 @@ ghost use Rattle.std.specs.Ordering.{MatchOrdering};
 ghost use Rattle.reql_datum.specs.Members.{text_order};
 ghost use Rattle.reql_datum.specs.Order.{text_less};
 
+use crate::short::Short;
 use reql_memory::Memory;
 use std::alloc::Global;
 use std::cmp::Ordering;
 use std::marker::Model;
 use std::sync::ArcStr;
 
-/// A text that is shared: a name, or the text of a document. Contracts see its bytes.
+// Where the text is.
+#[derive(Drop)]
+enum Chars {
+    Short(Short),
+    Shared(ArcStr),
+}
+
+/// A text: a name, or the text of a document. A short one, of at most 16 bytes, lies in the value
+/// itself, a longer one is shared. Contracts see its bytes.
 #[derive(Drop)]
 pub struct Name {
-    chars: ArcStr,
+    chars: Chars,
 }
 
 impl Model for Name {
     ghost use Rattle.std.specs.Prelude.{ℕ, List};
-    ghost use Rattle.std.specs.Arc.{arc_str_bytes};
+    ghost use Rattle.reql_datum.specs.Chars.{chars_bytes};
 
     ghost Value = { List ℕ };
 
-    ghost view = { λ a. arc_str_bytes a.chars };
+    ghost view = { λ a. chars_bytes a.chars };
 }
 
 // How two texts stand by their bytes. Most differ in the first one, which is looked at before all.
@@ -40,15 +49,25 @@ impl Name {
     pub fn of(alloc: Global, text: &str) -> Result<Name, Memory>
         ensures { IfOk result (λ n. n ≡ text.now) }
     {
-        let chars = ArcStr::from_str(alloc, text)?;
-        Ok(Name { chars })
+        if let Some(short) = Short::of(text) {
+            return Ok(Name {
+                chars: Chars::Short(short),
+            });
+        }
+        let shared = ArcStr::from_str(alloc, text)?;
+        Ok(Name {
+            chars: Chars::Shared(shared),
+        })
     }
 
     /// The text.
     pub fn as_str(&self) -> &str
         ensures { result.now ≡ self.now }
     {
-        self.chars.as_str()
+        match &self.chars {
+            Chars::Short(short) => short.as_str(),
+            Chars::Shared(shared) => shared.as_str(),
+        }
     }
 
     /// How it stands to a text, by their bytes, which is by code points.
@@ -61,12 +80,24 @@ impl Name {
         text_order(self.as_str(), text)
     }
 
-    /// An equal name that shares the text. Memory where the count of sharers is full.
+    /// An equal name, which shares a text that is shared. Memory where the count of sharers is full.
     pub fn copy(&self) -> Result<Name, Memory>
         ensures { IfOk result (λ n. n ≡ self.now) }
     {
-        let chars = self.chars.clone()?;
-        Ok(Name { chars })
+        match &self.chars {
+            Chars::Short(short) => {
+                let short = short.copy();
+                Ok(Name {
+                    chars: Chars::Short(short),
+                })
+            }
+            Chars::Shared(shared) => {
+                let shared = shared.clone()?;
+                Ok(Name {
+                    chars: Chars::Shared(shared),
+                })
+            }
+        }
     }
 }
 
