@@ -239,11 +239,13 @@ impl Engine for Catalogue {
     fn apply(&mut self, _by: u64, cmd: CatCmd) -> Result<CatReply, Refused<CatCmd>> {
         let place = self.known.names.place;
         if place == u64::MAX {
+            drop(cmd);
             let said = CatSaid::HistoryFull { count: u64::MAX };
             return Ok(CatReply { place, said });
         }
         match run(self.alloc, &self.known, &cmd) {
             Ok((known, said)) => {
+                drop(cmd);
                 self.known = known;
                 let place = place + 1;
                 Ok(CatReply { place, said })
