@@ -1,6 +1,7 @@
 //! The bodies of answers, written with no JSON value made for them.
 #![tactic(auto)]
 
+mod ends;
 mod error;
 mod fixed;
 mod refusals;
@@ -8,6 +9,7 @@ mod results;
 mod stamp;
 mod writing;
 
+pub use ends::write_end;
 pub use error::ErrorType;
 pub use fixed::{INTERNAL, internal};
 pub use refusals::{fault, refusal};
