@@ -1,13 +1,13 @@
--- The parts of an answer with results: what stands before its results, and after them.
-use Rattle.std.specs.Prelude.{ℕ, List, [], ◌∷◌, ◌++◌, map, cond, Option, option_map, codes}
-use Rattle.json.specs.Token.{Token, begin_object, end_object, key}
+-- What stands before the results of an answer.
+use Rattle.std.specs.Prelude.{ℕ, List, [], ◌∷◌, ◌++◌, map, cond, codes}
+use Rattle.json.specs.Token.{Token, begin_object, key}
 use Rattle.json.specs.Tree.{items_tokens}
 use Rattle.serde_json.specs.Data as json
 use Rattle.serde_json.specs.Written.{items_outline}
 use Rattle.serde_json.specs.View as seen
 use Rattle.reql_datum.specs.View.{plain}
 use Rattle.reql_json.specs.Showing.{shown}
-use Rattle.reql_answer.specs.Body.{Answer, Stamped, also, stamp_value, whole, numbers}
+use Rattle.reql_answer.specs.Body.{Answer, whole, numbers}
 use Rattle.reql_answer.specs.Written.{member_tokens}
 use Rattle.reql_story.specs.Bodies.{is_united}
 use Rattle.reql_talk.specs.declared.answered.Shown.{Shown}
@@ -16,16 +16,13 @@ use Rattle.reql_talk.specs.declared.answered.Shown.{Shown}
 abbrev pub numbers_tokens : List ℕ → List Token
 numbers_tokens ns = items_tokens (items_outline (seen.items_of (map whole ns)))
 
+-- what stands before the results where there are no notes
+abbrev pub start_text : List ℕ
+start_text = codes "{\"n\":[],\"r\":"
+
 -- the tokens up to the results, after these members
 abbrev pub opening : Answer → List Token
 opening before = begin_object ∷ (member_tokens before ++ key (codes "r") ∷ [])
-
--- the members after the results
-abbrev pub back : ℕ → Option Stamped → Answer
-back kind stamp = also (codes "s") (option_map stamp_value stamp) ++ ((codes "t", whole kind) ∷ [])
-
-abbrev pub closing : Answer → List Token
-closing after = member_tokens after ++ end_object ∷ []
 
 -- what an answer tells of a feed's items
 abbrev pub places_of : List Shown → List ℕ

@@ -12,12 +12,11 @@ ghost use Rattle.reql_story.specs.Bodies as texts;
 ghost use Rattle.reql_talk.specs.Meant.{shown_of};
 ghost use Rattle.reql_bodies.specs.Parts.{opening, numbers_tokens, places_of, stamps_of, items_shown, arms_told, front};
 
-use crate::results::close;
+use crate::results::ended;
 use crate::writing::write_shown;
 use json::Writer;
 use reql_answer::Stamp;
 use reql_datum::Memory;
-use reql_json::written;
 use reql_talk::Shown;
 use std::alloc::{AllocError, Global};
 
@@ -167,6 +166,5 @@ pub fn batch(
     let mut out = Writer::new(Vec::with_capacity(alloc, FIRST_BYTES)?);
     open(&mut out, notes, items)?;
     write_list(alloc, &mut out, items)?;
-    close(&mut out, 3, stamp)?;
-    Ok(written(out))
+    Ok(ended(out, 3, stamp)?)
 }

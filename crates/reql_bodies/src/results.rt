@@ -1,5 +1,5 @@
 // Answers with results.
-ghost use Rattle.std.specs.Prelude.{◌≡◌, [], ◌∷◌, ◌++◌, None, Some, option_map, IfOk, OnOk, map, codes, true};
+ghost use Rattle.std.specs.Prelude.{◌≡◌, [], ◌++◌, None, Some, option_map, IfOk, OnOk, map, true};
 ghost use Rattle.serde_json.specs.Written.{items_text};
 ghost use Rattle.serde_json.specs.View.{items_of};
 ghost use Rattle.reql_datum.specs.View.{plain};
@@ -7,13 +7,14 @@ ghost use Rattle.reql_json.specs.Showing.{shown};
 ghost use Rattle.reql_json.specs.Spelling.{text_in, is_after_value, text_with};
 ghost use Rattle.reql_answer.specs.Body.{array_of, results, stamped_by};
 ghost use Rattle.reql_answer.specs.Body as answers;
+ghost use Rattle.reql_answer.specs.Ending.{end_text};
 ghost use Rattle.reql_story.specs.Requests.{Atom, Last, Part};
 ghost use Rattle.reql_story.specs.Bodies.{body};
-ghost use Rattle.reql_bodies.specs.Parts.{opening, closing, back};
+ghost use Rattle.reql_bodies.specs.Parts.{start_text};
 
 use crate::writing::write_shown;
 use json::Writer;
-use reql_answer::{Stamp, write_none, write_stamp, write_type};
+use reql_answer::{Stamp, write_end};
 use reql_datum::{Datum, Memory};
 use reql_json::written;
 use std::alloc::{AllocError, Global};
@@ -23,26 +24,22 @@ use std::slice;
 const FIRST_BYTES: usize = 256;
 
 // What stands before the results of an answer with no notes.
-#[tactic(auto, using(crate::proofs::Joins::opened_by_one))]
-fn open(out: &mut Writer) -> Result<(), AllocError>
-    ensures tokens { OnOk result (out.new.tokens ≡ out.old.tokens ++ opening ((codes "n", array_of []) ∷ [])) }
-    ensures before { out.new.before ≡ out.old.before }
+fn begun(alloc: Global) -> Result<Vec<u8>, AllocError>
+    ensures { IfOk result (λ b. b.items ≡ start_text) }
 {
-    out.begin_object()?;
-    write_none(out, "n")?;
-    Ok(out.key("r")?)
+    let mut bytes = Vec::with_capacity(alloc, FIRST_BYTES)?;
+    bytes.extend_from_slice(b"{\"n\":[],\"r\":")?;
+    Ok(bytes)
 }
 
-/// What stands after the results.
-#[tactic(auto, using(crate::proofs::Joins::closed_by_two))]
-pub(crate) fn close(out: &mut Writer, kind: u8, stamp: Option<Stamp<'_>>) -> Result<(), AllocError>
-    ensures tokens { OnOk result (out.new.tokens ≡ out.old.tokens
-        ++ closing (back kind (option_map stamped_by stamp.entry))) }
-    ensures before { out.new.before ≡ out.old.before }
+/// The bytes of an answer whose results were written, and its end.
+pub(crate) fn ended(out: Writer, kind: u8, stamp: Option<Stamp<'_>>) -> Result<Vec<u8>, AllocError>
+    ensures { IfOk result (λ b. b.items
+        ≡ text_in out ++ end_text kind (option_map stamped_by stamp.entry)) }
 {
-    write_stamp(out, stamp)?;
-    write_type(out, kind)?;
-    Ok(out.end_object()?)
+    let mut bytes = written(out);
+    write_end(&mut bytes, kind, stamp)?;
+    Ok(bytes)
 }
 
 // Documents of a list, and its closing bracket.
@@ -78,11 +75,9 @@ fn stream(
     ensures { IfOk result (λ b. b.items ≡ answers.body (results kind [] None
         (map shown (map plain documents.now)) (option_map stamped_by stamp.entry))) }
 {
-    let mut out = Writer::new(Vec::with_capacity(alloc, FIRST_BYTES)?);
-    open(&mut out)?;
+    let mut out = Writer::new(begun(alloc)?);
     write_list(alloc, &mut out, documents)?;
-    close(&mut out, kind, stamp)?;
-    Ok(written(out))
+    Ok(ended(out, kind, stamp)?)
 }
 
 /// The answer of one document.
