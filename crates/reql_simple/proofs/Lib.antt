@@ -1,3 +1,4 @@
 pub mod Chained
+pub mod Members
 pub mod Operators
 pub mod Rules

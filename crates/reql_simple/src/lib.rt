@@ -4,9 +4,11 @@
 
 mod applied;
 mod lying;
+mod object;
 mod of_two;
 mod roles;
 mod terms;
 
 pub use lying::Found;
+pub use object::object_found;
 pub use terms::found;
