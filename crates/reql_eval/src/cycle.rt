@@ -26,7 +26,7 @@ use reql_operand::{Arg, Choice, Key, Value, World, misplaced, wrong_count};
 use reql_sense::{
     Vars, arg_of, callee, direction, function_in, is_fit, late, object_of, raising, takes_key,
 };
-use reql_simple::found;
+use reql_simple::{found, object_found};
 use reql_term::{Op, TableView, Term, TermFields, Way};
 use reql_ways::{apply_by, arguments, default_to, function_at, lazily};
 use std::alloc::Global;
@@ -90,7 +90,7 @@ fn eval_array<V: TableView>(
     eval_all(alloc, Way::Strict, kind, terms, &none, world, vars)
 }
 
-// The object of what terms give.
+// The object of what terms give, at once where each is simple.
 #[cycle(eval)]
 fn eval_object<V: TableView>(
     alloc: Global,
@@ -101,8 +101,13 @@ fn eval_object<V: TableView>(
     ensures { let w = seen V.documents V.indexes V.entries world.now in
         Gives (meant w) result (make_object (optional fields.now) w (bound vars.now)) }
 {
-    let choices = eval_options(alloc, Way::Strict, fields, world, vars)?;
-    object_of(alloc, world.array_limit, &choices)
+    match object_found(alloc, fields, world.array_limit, vars) {
+        Some(result) => result,
+        None => {
+            let choices = eval_options(alloc, Way::Strict, fields, world, vars)?;
+            object_of(alloc, world.array_limit, &choices)
+        }
+    }
 }
 
 // An operator with its arguments.
