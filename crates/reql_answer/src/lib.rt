@@ -15,4 +15,3 @@ pub use fixed::{INTERNAL, internal};
 pub use refusals::{fault, refusal};
 pub use results::atom;
 pub use stamp::Stamp;
-pub use writing::{write_none, write_stamp, write_type};

@@ -15,7 +15,7 @@ use reql_datum::Point;
 use std::alloc::AllocError;
 
 /// The empty list of a name.
-pub fn write_none(out: &mut Writer, name: &str) -> Result<(), AllocError>
+pub(crate) fn write_none(out: &mut Writer, name: &str) -> Result<(), AllocError>
     ensures tokens { OnOk result (out.new.tokens ≡ out.old.tokens
         ++ member_tokens ((name.now, array_of []) ∷ [])) }
     ensures before { out.new.before ≡ out.old.before }
@@ -48,7 +48,7 @@ pub(crate) fn write_code(out: &mut Writer, error: ErrorType) -> Result<(), Alloc
 }
 
 /// The type of the answer.
-pub fn write_type(out: &mut Writer, kind: u8) -> Result<(), AllocError>
+pub(crate) fn write_type(out: &mut Writer, kind: u8) -> Result<(), AllocError>
     ensures tokens { OnOk result (out.new.tokens ≡ out.old.tokens
         ++ member_tokens ((codes "t", whole kind) ∷ [])) }
     ensures before { out.new.before ≡ out.old.before }
@@ -84,7 +84,7 @@ fn write_points(out: &mut Writer, points: &[Point]) -> Result<(), AllocError>
 }
 
 /// The points that the answer names, where it names any.
-pub fn write_stamp(out: &mut Writer, stamp: Option<Stamp<'_>>) -> Result<(), AllocError>
+pub(crate) fn write_stamp(out: &mut Writer, stamp: Option<Stamp<'_>>) -> Result<(), AllocError>
     ensures tokens { OnOk result (out.new.tokens ≡ out.old.tokens
         ++ member_tokens (also (codes "s") (option_map stamp_value
         (option_map stamped_by stamp.entry)))) }
