@@ -10,7 +10,7 @@ use Rattle.reql_datum.specs.declared.fault.Fault.{Fault}
 use Rattle.reql_term.specs.Form.{Form}
 use Rattle.reql_rules.specs.Lists.{Bytes, each, object_of}
 use Rattle.reql_value.specs.Meaning.{sense, member_datum, make_object}
-use Rattle.reql_value.specs.Meant.{Meant, one, given, Options}
+use Rattle.reql_value.specs.Meant.{Meant, one, Given, given, Options}
 use Rattle.reql_value.specs.Sense.{Sense, value, option, options}
 use Rattle.reql_value.specs.Sequenced.{sized}
 use Rattle.reql_value.specs.World.{World, Vars}

@@ -1,6 +1,5 @@
 //! Simple terms: literals, variables, fields of documents, and comparisons, logic and arithmetic of
-//! these. What one stands for is found without a list of arguments, and is read where it lies. An
-//! object of such terms is built from that at once.
+//! these. What one stands for is found without a list of arguments, and is read where it lies.
 #![tactic(auto)]
 
 mod applied;
