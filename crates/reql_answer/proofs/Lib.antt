@@ -1,3 +1,2 @@
-pub mod Members
-pub mod Atoms
 pub mod Ended
+pub mod Whole

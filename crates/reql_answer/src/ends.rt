@@ -10,9 +10,12 @@ use reql_datum::Point;
 use std::alloc::AllocError;
 
 // The digits of the longest number.
-const DIGITS: usize = 20;
+pub(crate) const DIGITS: usize = 20;
 
-// The bytes of the longest point, and more: three numbers, two brackets and three commas.
+// The bytes of the longest number and a comma, and more.
+const NUMBER_BYTES: usize = 24;
+
+// The bytes of the longest point and a comma, and more: three numbers, two brackets and three commas.
 const POINT_BYTES: usize = 72;
 
 // Puts a byte before what stands from `end` on, and returns its place.
@@ -26,7 +29,7 @@ fn put_byte(text: &mut [u8], end: usize, byte: u8) -> usize
 }
 
 // Appends what stands from `start` on.
-fn append_from(out: &mut Vec<u8>, text: &[u8], start: usize) -> Result<(), AllocError>
+pub(crate) fn append_from(out: &mut Vec<u8>, text: &[u8], start: usize) -> Result<(), AllocError>
     requires { start ≤ length text.now }
     ensures { OnOk result (out.new.items ≡ out.old.items ++ drop start text.now) }
 {
@@ -47,17 +50,39 @@ fn put_point(text: &mut [u8; POINT_BYTES], point: Point) -> usize
     put_byte(text, slot, b'[')
 }
 
+// Appends what stands from `start` on, with a comma before it where a value stands there.
+fn append_item(
+    out: &mut Vec<u8>,
+    later: bool,
+    text: &mut [u8],
+    start: usize,
+) -> Result<(), AllocError>
+    requires { (1 ≤ start) × (start ≤ length text.old) }
+    ensures { OnOk result (out.new.items ≡ out.old.items ++ (comma_if later ++ drop start text.old)) }
+{
+    if !later {
+        return Ok(append_from(out, text, start)?);
+    }
+    let comma = put_byte(text, start, b',');
+    Ok(append_from(out, text, comma)?)
+}
+
+/// Appends a number, with a comma before it where a value stands there.
+pub fn write_number(out: &mut Vec<u8>, later: bool, n: u64) -> Result<(), AllocError>
+    ensures { OnOk result (out.new.items ≡ out.old.items ++ (comma_if later ++ decimal n)) }
+{
+    let mut text = [0; NUMBER_BYTES];
+    let start = write_digits(n, &mut text, NUMBER_BYTES);
+    Ok(append_item(out, later, &mut text, start)?)
+}
+
 // A point, with a comma before it where another stands there.
 fn write_point(out: &mut Vec<u8>, later: bool, point: Point) -> Result<(), AllocError>
     ensures { OnOk result (out.new.items ≡ out.old.items ++ (comma_if later ++ point_text point)) }
 {
     let mut text = [0; POINT_BYTES];
     let start = put_point(&mut text, point);
-    if !later {
-        return Ok(append_from(out, &text, start)?);
-    }
-    let comma = put_byte(&mut text, start, b',');
-    Ok(append_from(out, &text, comma)?)
+    Ok(append_item(out, later, &mut text, start)?)
 }
 
 fn write_points(out: &mut Vec<u8>, points: &[Point]) -> Result<(), AllocError>

@@ -7,9 +7,8 @@ mod fixed;
 mod refusals;
 mod results;
 mod stamp;
-mod writing;
 
-pub use ends::write_end;
+pub use ends::{write_end, write_number};
 pub use error::ErrorType;
 pub use fixed::{INTERNAL, internal};
 pub use refusals::{fault, refusal};

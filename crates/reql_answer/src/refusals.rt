@@ -1,62 +1,74 @@
 // Answers of requests that fail.
-ghost use Rattle.std.specs.Prelude.{◌≡◌, ◌++◌, option_map, IfOk, OnOk};
-ghost use Rattle.json.specs.Tree.{json_tokens};
-ghost use Rattle.serde_json.specs.Data.{object};
-ghost use Rattle.serde_json.specs.Written.{outline};
-ghost use Rattle.reql_json.specs.Showing.{members_of};
-ghost use Rattle.reql_answer.specs.Body.{body, stamped_by};
+ghost use Rattle.std.specs.Prelude.{◌≡◌, ◌++◌, codes, decimal, option_map, IfOk};
+ghost use Rattle.json.specs.Print.{quoted};
+ghost use Rattle.reql_answer.specs.Body.{body, code_of, stamped_by};
 ghost use Rattle.reql_answer.specs.Body.{refusal as refusal_answer, fault as fault_answer};
+ghost use Rattle.reql_answer.specs.Ending.{end_text};
 
+use crate::ends::{DIGITS, append_from, write_end};
 use crate::error::ErrorType;
 use crate::stamp::Stamp;
-use crate::writing::{write_code, write_none, write_stamp, write_type, write_why};
+use itoa::write_digits;
 use json::Writer;
 use reql_datum::Memory;
-use reql_json::written;
 use std::alloc::{AllocError, Global};
 
 // The bytes that are taken for a short answer at first.
 const SHORT_BYTES: usize = 160;
 
-fn write_refusal(out: &mut Writer, kind: u8, why: &str) -> Result<(), AllocError>
-    ensures tokens { OnOk result (out.new.tokens ≡ out.old.tokens
-        ++ json_tokens (outline (object (members_of (refusal_answer kind why.now))))) }
-    ensures before { out.new.before ≡ out.old.before }
+// A text in quotes after some bytes.
+fn quote(bytes: Vec<u8>, text: &str) -> Result<Vec<u8>, AllocError>
+    ensures { IfOk result (λ b. b.items ≡ bytes.items ++ quoted text.now) }
 {
-    out.begin_object()?;
-    write_none(out, "b")?;
-    write_why(out, why)?;
-    write_type(out, kind)?;
-    Ok(out.end_object()?)
+    let mut out = Writer::new(bytes);
+    out.string(text)?;
+    Ok(out.into_inner())
 }
 
-fn write_fault(
-    out: &mut Writer,
-    error: ErrorType,
-    why: &str,
-    stamp: Option<Stamp<'_>>,
-) -> Result<(), AllocError>
-    ensures tokens { OnOk result (out.new.tokens ≡ out.old.tokens
-        ++ json_tokens (outline (object (members_of
-        (fault_answer error why.now (option_map stamped_by stamp.entry)))))) }
-    ensures before { out.new.before ≡ out.old.before }
+// What stands before the text of a refusal.
+fn begin_refusal(alloc: Global) -> Result<Vec<u8>, AllocError>
+    ensures { IfOk result (λ b. b.items ≡ codes "{\"b\":[],\"r\":[") }
 {
-    out.begin_object()?;
-    write_none(out, "b")?;
-    write_code(out, error)?;
-    write_why(out, why)?;
-    write_stamp(out, stamp)?;
-    write_type(out, 18)?;
-    Ok(out.end_object()?)
+    let mut bytes = Vec::with_capacity(alloc, SHORT_BYTES)?;
+    bytes.extend_from_slice(b"{\"b\":[],\"r\":[")?;
+    Ok(bytes)
+}
+
+// What stands before the text of a fault of running.
+fn begin_fault(alloc: Global, error: ErrorType) -> Result<Vec<u8>, AllocError>
+    ensures { IfOk result (λ b. b.items
+        ≡ codes "{\"b\":[],\"e\":" ++ decimal (code_of error) ++ codes ",\"r\":[") }
+{
+    let mut text = *b"00000000000000000000,\"r\":[";
+    let start = write_digits(u64::from(error.code()), &mut text, DIGITS);
+    let mut bytes = Vec::with_capacity(alloc, SHORT_BYTES)?;
+    bytes.extend_from_slice(b"{\"b\":[],\"e\":")?;
+    append_from(&mut bytes, &text, start)?;
+    Ok(bytes)
+}
+
+// The text of a fault, and what stands after it.
+fn because(
+    bytes: Vec<u8>,
+    why: &str,
+    kind: u8,
+    stamp: Option<Stamp<'_>>,
+) -> Result<Vec<u8>, AllocError>
+    ensures { IfOk result (λ b. b.items ≡ bytes.items ++ quoted why.now ++ codes "]"
+        ++ end_text kind (option_map stamped_by stamp.entry)) }
+{
+    let mut told = quote(bytes, why)?;
+    told.extend_from_slice(b"]")?;
+    write_end(&mut told, kind, stamp)?;
+    Ok(told)
 }
 
 /// The answer to a request that a client may not make, type 16, or that can't be compiled, type 17.
 pub fn refusal(alloc: Global, kind: u8, why: &str) -> Result<Vec<u8>, Memory>
     ensures { IfOk result (λ b. b.items ≡ body (refusal_answer kind why.now)) }
 {
-    let mut out = Writer::new(Vec::with_capacity(alloc, SHORT_BYTES)?);
-    write_refusal(&mut out, kind, why)?;
-    Ok(written(out))
+    let bytes = begin_refusal(alloc)?;
+    Ok(because(bytes, why, kind, None)?)
 }
 
 /// The answer to a request that fails when it runs, type 18.
@@ -69,7 +81,6 @@ pub fn fault(
     ensures { IfOk result (λ b. b.items ≡ body (fault_answer error why.now
         (option_map stamped_by stamp.entry))) }
 {
-    let mut out = Writer::new(Vec::with_capacity(alloc, SHORT_BYTES)?);
-    write_fault(&mut out, error, why, stamp)?;
-    Ok(written(out))
+    let bytes = begin_fault(alloc, error)?;
+    Ok(because(bytes, why, 18, stamp)?)
 }

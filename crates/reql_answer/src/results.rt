@@ -1,16 +1,16 @@
 // The answer of one value.
-ghost use Rattle.std.specs.Prelude.{◌≡◌, [], ◌∷◌, ◌++◌, None, option_map, IfOk, OnOk, codes};
-ghost use Rattle.json.specs.Token.{begin_object, begin_array, end_array, key};
+ghost use Rattle.std.specs.Prelude.{◌≡◌, [], ◌∷◌, ◌++◌, None, option_map, IfOk, codes};
 ghost use Rattle.reql_datum.specs.View.{plain};
 ghost use Rattle.reql_json.specs.Showing.{Shows, value};
+ghost use Rattle.reql_json.specs.Spelling.{text_in};
 ghost use Rattle.reql_answer.specs.Body.{body, results, stamped_by};
 ghost use Rattle.reql_answer.specs.Body.{atom as atom_answer};
-ghost use Rattle.reql_answer.specs.Written.{opening, closing};
+ghost use Rattle.reql_answer.specs.Ending.{end_text};
 
+use crate::ends::write_end;
 use crate::error::ErrorType;
 use crate::refusals::fault;
 use crate::stamp::Stamp;
-use crate::writing::{write_none, write_stamp, write_type};
 use json::Writer;
 use reql_datum::{Datum, Memory};
 use reql_json::{ShowFault, write_document, written};
@@ -22,27 +22,24 @@ const LONGEST: usize = 268_435_456;
 // The bytes that are taken for an answer at first.
 const FIRST_BYTES: usize = 256;
 
-// What stands before the results.
-fn open(out: &mut Writer) -> Result<(), AllocError>
-    ensures tokens { OnOk result (out.new.tokens ≡ out.old.tokens ++ opening) }
-    ensures before { out.new.before ≡ out.old.before }
+// What stands before the one result.
+fn begun(alloc: Global) -> Result<Vec<u8>, AllocError>
+    ensures { IfOk result (λ b. b.items ≡ codes "{\"n\":[],\"r\":[") }
 {
-    out.begin_object()?;
-    write_none(out, "n")?;
-    out.key("r")?;
-    out.begin_array()
+    let mut bytes = Vec::with_capacity(alloc, FIRST_BYTES)?;
+    bytes.extend_from_slice(b"{\"n\":[],\"r\":[")?;
+    Ok(bytes)
 }
 
-// What stands after them.
-fn close(out: &mut Writer, stamp: Option<Stamp<'_>>) -> Result<(), AllocError>
-    ensures tokens { OnOk result (out.new.tokens ≡ out.old.tokens
-        ++ closing 1 (option_map stamped_by stamp.entry)) }
-    ensures before { out.new.before ≡ out.old.before }
+// What a writer holds, and what stands after the one result.
+fn ended(out: Writer, stamp: Option<Stamp<'_>>) -> Result<Vec<u8>, AllocError>
+    ensures { IfOk result (λ b. b.items
+        ≡ text_in out ++ codes "]" ++ end_text 1 (option_map stamped_by stamp.entry)) }
 {
-    out.end_array()?;
-    write_stamp(out, stamp)?;
-    write_type(out, 1)?;
-    out.end_object()
+    let mut bytes = written(out);
+    bytes.extend_from_slice(b"]")?;
+    write_end(&mut bytes, 1, stamp)?;
+    Ok(bytes)
 }
 
 fn atom_text(
@@ -54,11 +51,9 @@ fn atom_text(
         (λ d. body (results 1 [] None (d ∷ []) (option_map stamped_by stamp.entry)))
         (value (plain document.now))) }
 {
-    let mut out = Writer::new(Vec::with_capacity(alloc, FIRST_BYTES)?);
-    open(&mut out)?;
-    let mut out = write_document(alloc, out, document)?;
-    close(&mut out, stamp)?;
-    Ok(written(out))
+    let out = Writer::new(begun(alloc)?);
+    let out = write_document(alloc, out, document)?;
+    Ok(ended(out, stamp)?)
 }
 
 /// The answer of one document, type 1, or the fault that it can't be shown or is too long.

@@ -1,21 +1,19 @@
 // The answer with a batch of a feed.
-ghost use Rattle.std.specs.Prelude.{◌≡◌, List, [], ◌∷◌, ◌++◌, Some, option_map, IfOk, OnOk, map, codes, true};
+ghost use Rattle.std.specs.Prelude.{◌≡◌, List, ◌++◌, Some, option_map, IfOk, OnOk, map, true, false};
 ghost use Rattle.serde_json.specs.Written.{items_text};
 ghost use Rattle.serde_json.specs.View.{items_of};
 ghost use Rattle.reql_json.specs.Spelling.{text_in, is_after_value, text_with};
-ghost use Rattle.reql_answer.specs.Body.{array_of, numbers, results, stamped_by};
-ghost use Rattle.reql_answer.specs.Body as answers;
-ghost use Rattle.reql_answer.specs.Written.{member_tokens};
+ghost use Rattle.reql_answer.specs.Body.{array_of, stamped_by};
 ghost use Rattle.reql_story.specs.Requests.{Arm, Batch};
 ghost use Rattle.reql_story.specs.Bodies.{body};
 ghost use Rattle.reql_story.specs.Bodies as texts;
 ghost use Rattle.reql_talk.specs.Meant.{shown_of};
-ghost use Rattle.reql_bodies.specs.Parts.{opening, numbers_tokens, places_of, stamps_of, items_shown, arms_told, front};
+ghost use Rattle.reql_bodies.specs.Parts.{numbers_text, places_of, stamps_of, items_shown, arms_text, front_text};
 
 use crate::results::ended;
 use crate::writing::write_shown;
 use json::Writer;
-use reql_answer::Stamp;
+use reql_answer::{Stamp, write_number};
 use reql_datum::Memory;
 use reql_talk::Shown;
 use std::alloc::{AllocError, Global};
@@ -37,96 +35,68 @@ fn is_united(notes: &[u8]) -> bool
     false
 }
 
-// The notes of a list, and its closing bracket.
-#[tactic(auto, using(crate::proofs::Joins::number_step))]
-fn each_note(out: &mut Writer, notes: &[u8]) -> Result<(), AllocError>
-    ensures tokens { OnOk result (out.new.tokens ≡ out.old.tokens ++ numbers_tokens notes.now) }
-    ensures before { out.new.before ≡ out.old.before }
+fn write_notes(out: &mut Vec<u8>, notes: &[u8]) -> Result<(), AllocError>
+    ensures { OnOk result (out.new.items ≡ out.old.items ++ numbers_text false notes.now) }
 {
     let mut place = 0;
     while let Some(note) = notes.get(place) {
-        out.u64(u64::from(*note))?;
+        write_number(out, place > 0, u64::from(*note))?;
         place += 1;
     }
-    Ok(out.end_array()?)
+    Ok(())
 }
 
-// The places of the items' arms, and the closing bracket.
-#[tactic(auto, using(crate::proofs::Joins::number_step))]
-fn each_place(out: &mut Writer, items: &[Shown]) -> Result<(), AllocError>
-    ensures tokens { OnOk result (out.new.tokens ≡ out.old.tokens ++ numbers_tokens (places_of items.now)) }
-    ensures before { out.new.before ≡ out.old.before }
+// The places of the items' arms.
+fn write_places(out: &mut Vec<u8>, items: &[Shown]) -> Result<(), AllocError>
+    ensures { OnOk result (out.new.items ≡ out.old.items
+        ++ numbers_text false (places_of items.now)) }
 {
     let mut place = 0;
     while let Some(item) = items.get(place) {
-        out.u64(u64::from(item.at))?;
+        write_number(out, place > 0, u64::from(item.at))?;
         place += 1;
     }
-    Ok(out.end_array()?)
+    Ok(())
 }
 
-// The stamps of the items, and the closing bracket.
-#[tactic(auto, using(crate::proofs::Joins::number_step))]
-fn each_stamp(out: &mut Writer, items: &[Shown]) -> Result<(), AllocError>
-    ensures tokens { OnOk result (out.new.tokens ≡ out.old.tokens ++ numbers_tokens (stamps_of items.now)) }
-    ensures before { out.new.before ≡ out.old.before }
+fn write_stamps(out: &mut Vec<u8>, items: &[Shown]) -> Result<(), AllocError>
+    ensures { OnOk result (out.new.items ≡ out.old.items
+        ++ numbers_text false (stamps_of items.now)) }
 {
     let mut place = 0;
     while let Some(item) = items.get(place) {
-        out.u64(item.stamp)?;
+        write_number(out, place > 0, item.stamp)?;
         place += 1;
     }
-    Ok(out.end_array()?)
+    Ok(())
 }
 
 // The arm of each item, where the notes say so.
-#[tactic(auto, using(crate::proofs::Joins::numbers_member))]
-fn write_arms(out: &mut Writer, notes: &[u8], items: &[Shown]) -> Result<(), AllocError>
-    ensures tokens { OnOk result (out.new.tokens ≡ out.old.tokens
-        ++ member_tokens (arms_told notes.now (places_of items.now))) }
-    ensures before { out.new.before ≡ out.old.before }
+fn write_arms(out: &mut Vec<u8>, notes: &[u8], items: &[Shown]) -> Result<(), AllocError>
+    ensures { OnOk result (out.new.items ≡ out.old.items
+        ++ arms_text notes.now (places_of items.now)) }
 {
     if !is_united(notes) {
         return Ok(());
     }
-    out.key("a")?;
-    out.begin_array()?;
-    Ok(each_place(out, items)?)
-}
-
-#[tactic(auto, using(crate::proofs::Joins::numbers_member))]
-fn write_stamps(out: &mut Writer, items: &[Shown]) -> Result<(), AllocError>
-    ensures tokens { OnOk result (out.new.tokens ≡ out.old.tokens
-        ++ member_tokens ((codes "f", numbers (stamps_of items.now)) ∷ [])) }
-    ensures before { out.new.before ≡ out.old.before }
-{
-    out.key("f")?;
-    out.begin_array()?;
-    Ok(each_stamp(out, items)?)
-}
-
-#[tactic(auto, using(crate::proofs::Joins::numbers_member))]
-fn write_notes(out: &mut Writer, notes: &[u8]) -> Result<(), AllocError>
-    ensures tokens { OnOk result (out.new.tokens ≡ out.old.tokens
-        ++ member_tokens ((codes "n", numbers notes.now) ∷ [])) }
-    ensures before { out.new.before ≡ out.old.before }
-{
-    out.key("n")?;
-    out.begin_array()?;
-    Ok(each_note(out, notes)?)
+    out.extend_from_slice(b"\"a\":[")?;
+    write_places(out, items)?;
+    Ok(out.extend_from_slice(b"],")?)
 }
 
 // What stands before the items.
-#[tactic(auto, using(crate::proofs::Joins::opened_by_three))]
-fn open(out: &mut Writer, notes: &[u8], items: &[Shown]) -> Result<(), AllocError>
-    ensures tokens { OnOk result (out.new.tokens ≡ out.old.tokens ++ opening (front notes.now items.now)) }
-    ensures before { out.new.before ≡ out.old.before }
+fn begun(alloc: Global, notes: &[u8], items: &[Shown]) -> Result<Vec<u8>, AllocError>
+    ensures { IfOk result (λ b. b.items ≡ front_text notes.now items.now) }
 {
-    out.begin_object()?;
-    write_arms(out, notes, items)?;
-    write_stamps(out, items)?;
-    write_notes(out, notes)?;
-    Ok(out.key("r")?)
+    let mut out = Vec::with_capacity(alloc, FIRST_BYTES)?;
+    out.extend_from_slice(b"{")?;
+    write_arms(&mut out, notes, items)?;
+    out.extend_from_slice(b"\"f\":[")?;
+    write_stamps(&mut out, items)?;
+    out.extend_from_slice(b"],\"n\":[")?;
+    write_notes(&mut out, notes)?;
+    out.extend_from_slice(b"],\"r\":")?;
+    Ok(out)
 }
 
 // Items of a list, and its closing bracket.
@@ -163,8 +133,7 @@ pub fn batch(
     ensures { (arms : List Arm) → IfOk result (λ b. b.items ≡ body (Batch notes.now
         (map (shown_of arms) items.now) (option_map stamped_by stamp.entry))) }
 {
-    let mut out = Writer::new(Vec::with_capacity(alloc, FIRST_BYTES)?);
-    open(&mut out, notes, items)?;
+    let mut out = Writer::new(begun(alloc, notes, items)?);
     write_list(alloc, &mut out, items)?;
     Ok(ended(out, 3, stamp)?)
 }

@@ -1,11 +1,13 @@
-use Rattle.std.proofs.Common.{◌++◌, ap, ◌∙◌, option_map}
-use Rattle.serde_json.specs.Data.{object}
-use Rattle.serde_json.specs.Written.{compact_text}
-use Rattle.reql_json.specs.Showing.{members_of}
-use Rattle.reql_answer.specs.Body.{stamped_by, fault as fault_answer}
+use Rattle.std.proofs.Common.{codes, option_map, ◌++◌, ap, ◌∙◌}
+use Rattle.json.specs.Print.{quoted}
+use Rattle.reql_answer.specs.Body.{stamped_by}
+use Rattle.reql_answer.specs.Ending.{end_text}
+use Rattle.reql_answer.proofs.Whole.{failed}
 use Rattle.reql_answer.proofs.refusals.fault.Goals as goal
 
 pub returns : goal.returns
 returns c =
-    c.written.ensures.value (object (members_of (fault_answer c.args.error c.args.why.now (option_map stamped_by c.args.stamp)))) (rw c.new-out.ensures.tokens at c.in_ok-write_fault.ensures.tokens)
-    ∙ ap (λ b. b ++ compact_text (object (members_of (fault_answer c.args.error c.args.why.now (option_map stamped_by c.args.stamp))))) (c.in_ok-write_fault.ensures.before ∙ c.new-out.ensures.before ∙ c.in_ok-with_capacity.ensures.items)
+    let stamp = option_map stamped_by c.args.stamp in
+    c.in_ok-because.ensures
+    ∙ ap (λ t. ((t ++ quoted c.args.why.now) ++ codes "]") ++ end_text 18 stamp) c.in_ok-bytes.ensures
+    ∙ failed c.args.error c.args.why.now stamp

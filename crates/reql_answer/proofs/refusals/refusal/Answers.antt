@@ -1,11 +1,11 @@
-use Rattle.std.proofs.Common.{◌++◌, ap, ◌∙◌}
-use Rattle.serde_json.specs.Data.{object}
-use Rattle.serde_json.specs.Written.{compact_text}
-use Rattle.reql_json.specs.Showing.{members_of}
-use Rattle.reql_answer.specs.Body.{refusal as refusal_answer}
+use Rattle.std.proofs.Common.{None, codes, ◌++◌, ap, ◌∙◌}
+use Rattle.json.specs.Print.{quoted}
+use Rattle.reql_answer.specs.Ending.{end_text}
+use Rattle.reql_answer.proofs.Whole.{refused}
 use Rattle.reql_answer.proofs.refusals.refusal.Goals as goal
 
 pub returns : goal.returns
 returns c =
-    c.written.ensures.value (object (members_of (refusal_answer c.args.kind c.args.why.now))) (rw c.new-out.ensures.tokens at c.in_ok-write_refusal.ensures.tokens)
-    ∙ ap (λ b. b ++ compact_text (object (members_of (refusal_answer c.args.kind c.args.why.now)))) (c.in_ok-write_refusal.ensures.before ∙ c.new-out.ensures.before ∙ c.in_ok-with_capacity.ensures.items)
+    c.in_ok-because.ensures
+    ∙ ap (λ t. ((t ++ quoted c.args.why.now) ++ codes "]") ++ end_text c.args.kind None) c.in_ok-bytes.ensures
+    ∙ refused c.args.kind c.args.why.now
