@@ -99,7 +99,11 @@ pub(crate) fn sides(alloc: Global, opts: &TermFields) -> Result<Option<(bool, bo
 {
     match sides_of(alloc, opts) {
         Ok(sides) => Ok(Some(sides)),
-        Err(fault) => no_sides(&fault),
+        Err(fault) => {
+            let none = no_sides(&fault);
+            drop(fault);
+            none
+        }
     }
 }
 
