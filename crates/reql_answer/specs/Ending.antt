@@ -27,6 +27,6 @@ stamp_text_if (Some s) = stamp_text s
 abbrev pub kind_text : ℕ → List ℕ
 kind_text kind = codes ",\"t\":" ++ decimal kind ++ codes "}"
 
--- the text of these members, and the closing bracket
+-- the text of the members of `ending`, and the closing bracket
 abbrev pub end_text : ℕ → Option Stamped → List ℕ
 end_text kind stamp = stamp_text_if stamp ++ kind_text kind

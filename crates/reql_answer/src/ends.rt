@@ -1,4 +1,4 @@
-// The end of an answer with results, written as bytes.
+// What stands around the values of an answer, written as bytes: its end, points and numbers.
 ghost use Rattle.std.specs.Prelude.{◌≡◌, ◌+◌, ◌≤◌, ◌∷◌, ◌++◌, length, drop, codes, decimal, option_map, OnOk, false};
 ghost use Rattle.serde_json.specs.Written.{comma_if};
 ghost use Rattle.reql_answer.specs.Body.{stamped_by};
@@ -9,7 +9,7 @@ use itoa::write_digits;
 use reql_datum::Point;
 use std::alloc::AllocError;
 
-// The digits of the longest number.
+// How many digits the longest number has.
 pub(crate) const DIGITS: usize = 20;
 
 // The bytes of the longest number and a comma, and more.

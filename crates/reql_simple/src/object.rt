@@ -26,8 +26,8 @@ use std::alloc::Global;
 /// The object of what terms by name give, where what each stands for is found. Where there is a
 /// fault in one, or anything else than a simple term, it is None, which says nothing of the object.
 ///
-/// It takes the memory of the object alone, and none where a term is of a kind that no simple term
-/// is of.
+/// It takes the memory of the object alone, which it gives back where it is None, and none where a
+/// term is of a kind that no simple term is of.
 pub fn object_found(
     alloc: Global,
     terms: &TermFields,
