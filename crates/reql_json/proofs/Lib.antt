@@ -5,4 +5,3 @@ pub mod Zones
 pub mod Names
 pub mod Back
 pub mod Shown
-pub mod Spelled

@@ -2,4 +2,3 @@ pub mod Literal
 pub mod Reading
 pub mod Showing
 pub mod Inverse
-pub mod Spelling

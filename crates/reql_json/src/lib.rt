@@ -6,11 +6,10 @@ mod laws;
 mod literal;
 mod read;
 mod show;
-mod spell;
 mod zone;
 
 pub use fault::{JsonFault, ShowFault};
 pub use laws::json_laws;
 pub use read::{from_members, from_value, has_reserved};
 pub use show::{text, to_value};
-pub use spell::{document_text, write_document, written};
+pub use zone::ZoneText;

@@ -6,13 +6,13 @@ use std::str;
 
 /// The text of a zone, as `+05:30` (RFC 3339, section 5.6).
 #[derive(Drop)]
-pub(crate) struct ZoneText {
+pub struct ZoneText {
     bytes: [u8; 6],
 }
 
 impl ZoneText {
     /// The text of a zone of so many minutes.
-    pub(crate) fn of(zone: i16) -> ZoneText
+    pub fn of(zone: i16) -> ZoneText
         requires { IsZone zone }
         ensures text { result.bytes ≡ zone_text zone }
         ensures ascii { IsAscii result.bytes }
@@ -30,7 +30,8 @@ impl ZoneText {
         ZoneText { bytes }
     }
 
-    pub(crate) fn as_str(&self) -> &str
+    /// The text.
+    pub fn as_str(&self) -> &str
         requires { IsAscii self.now.bytes }
         ensures { result.now ≡ self.now.bytes }
     {

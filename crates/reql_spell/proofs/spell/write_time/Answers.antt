@@ -2,8 +2,8 @@ use Rattle.std.proofs.Common.{◌≡◌, ◌∷◌, ◌++◌, [], codes, rules}
 use Rattle.std.specs.Fmt.{signed_decimal}
 use Rattle.json.specs.Token.{begin_object, end_object, key, string, number}
 use Rattle.reql_datum.specs.Zone.{zone_text}
-use Rattle.reql_json.proofs.Spelled.{four, then_more}
-use Rattle.reql_json.proofs.spell.write_time.Goals as goal
+use Rattle.reql_spell.proofs.Spelled.{four, then_more}
+use Rattle.reql_spell.proofs.spell.write_time.Goals as goal
 
 pub returns-clause-tokens : goal.returns-clause-tokens
 returns-clause-tokens c =

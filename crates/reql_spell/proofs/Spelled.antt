@@ -14,7 +14,7 @@ use Rattle.json.specs.Tree.{json_tokens, items_tokens, members_tokens}
 use Rattle.base64.specs.Engines.{standard}
 use Rattle.base64.specs.GeneralPurpose.{encode_of}
 use Rattle.reql_json.specs.Literal.{binary_shown, time_shown}
-use Rattle.reql_json.specs.Spelling.{text_in, is_after_value, text_with, binary_opening, time_tokens}
+use Rattle.reql_spell.specs.Spelling.{text_in, is_after_value, text_with, binary_opening, time_tokens}
 
 pub number_spelled : (z : ℤ) → number_text (of_integer z) ≡ signed_decimal z
 number_spelled (pos n) = refl

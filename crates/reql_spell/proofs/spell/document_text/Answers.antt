@@ -1,8 +1,8 @@
 use Rattle.std.proofs.Common.{Some, sym, ap, ◌∙◌}
 use Rattle.reql_datum.specs.View.{plain}
 use Rattle.reql_json.specs.Showing.{value}
-use Rattle.reql_json.proofs.Spelled.{all_written}
-use Rattle.reql_json.proofs.spell.document_text.Goals as goal
+use Rattle.reql_spell.proofs.Spelled.{all_written}
+use Rattle.reql_spell.proofs.spell.document_text.Goals as goal
 
 pub returns : goal.returns
 returns c =

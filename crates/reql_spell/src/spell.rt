@@ -11,10 +11,10 @@ ghost use Rattle.reql_datum.specs.Plain.{items_of, pairs_of};
 ghost use Rattle.reql_datum.specs.View.{plain};
 ghost use Rattle.reql_json.specs.Literal.{binary_shown};
 ghost use Rattle.reql_json.specs.Showing.{Shows, value, shown, items_shown, members_shown};
-ghost use Rattle.reql_json.specs.Spelling.{text_in, is_after_value, text_with, time_tokens, binary_opening};
+ghost use Rattle.reql_spell.specs.Spelling.{text_in, is_after_value, text_with, time_tokens, binary_opening};
 
-use crate::fault::ShowFault;
-use crate::zone::ZoneText;
+use reql_json::ShowFault;
+use reql_json::ZoneText;
 use base64::encoded_len;
 use base64::engine::general_purpose::STANDARD;
 use json::Writer;

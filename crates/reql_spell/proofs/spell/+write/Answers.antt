@@ -5,10 +5,10 @@ use Rattle.reql_datum.specs.Kinds.{is_storable, are_members_storable}
 use Rattle.reql_datum.specs.Plain.{items_of, pairs_of}
 use Rattle.reql_datum.specs.View.{plain}
 use Rattle.reql_json.specs.Showing.{shown, items_shown, members_shown}
-use Rattle.reql_json.specs.Spelling.{text_in, is_after_value, text_with}
+use Rattle.reql_spell.specs.Spelling.{text_in, is_after_value, text_with}
 use Rattle.reql_json.proofs.Shown.{second}
-use Rattle.reql_json.proofs.Spelled.{array_written, object_written, array_closed, object_closed, member_written}
-use Rattle.reql_json.proofs.spell.+write.Goals as goal
+use Rattle.reql_spell.proofs.Spelled.{array_written, object_written, array_closed, object_closed, member_written}
+use Rattle.reql_spell.proofs.spell.+write.Goals as goal
 
 pub write-returns-in_ok-write_items-in-List-clause-text : goal.write-returns-in_ok-write_items-in-List-clause-text
 write-returns-in_ok-write_items-in-List-clause-text t c =

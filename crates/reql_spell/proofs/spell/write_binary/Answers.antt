@@ -1,5 +1,5 @@
-use Rattle.reql_json.proofs.Spelled.{binary_written}
-use Rattle.reql_json.proofs.spell.write_binary.Goals as goal
+use Rattle.reql_spell.proofs.Spelled.{binary_written}
+use Rattle.reql_spell.proofs.spell.write_binary.Goals as goal
 
 pub returns-clause-text : goal.returns-clause-text
 returns-clause-text c =

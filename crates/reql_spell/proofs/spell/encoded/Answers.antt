@@ -1,10 +1,10 @@
 use Rattle.std.proofs.Common.{◌∷◌, ◌++◌, [], ap, ◌∙◌, arith}
 use Rattle.base64.specs.Engines.{standard}
 use Rattle.base64.specs.GeneralPurpose.{encode_of}
-use Rattle.reql_json.specs.Spelling.{text_in}
+use Rattle.reql_spell.specs.Spelling.{text_in}
 use Rattle.reql_json.proofs.Symbols.{bytes_from, escape_encoded}
-use Rattle.reql_json.proofs.Spelled.{fresh_text, quoted_after}
-use Rattle.reql_json.proofs.spell.encoded.Goals as goal
+use Rattle.reql_spell.proofs.Spelled.{fresh_text, quoted_after}
+use Rattle.reql_spell.proofs.spell.encoded.Goals as goal
 
 pub returns-clause-text : goal.returns-clause-text
 returns-clause-text c =

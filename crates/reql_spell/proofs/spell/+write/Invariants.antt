@@ -4,8 +4,8 @@ use Rattle.reql_datum.specs.Kinds.{are_storable, are_members_storable}
 use Rattle.reql_datum.specs.Plain.{items_of, pairs_of, weight, list_weight, members_weight}
 use Rattle.reql_datum.specs.View.{plain}
 use Rattle.reql_json.specs.Showing.{items_shown, members_shown}
-use Rattle.reql_json.specs.Spelling.{text_in, is_after_value}
-use Rattle.reql_json.proofs.spell.+write.Given as goal
+use Rattle.reql_spell.specs.Spelling.{text_in, is_after_value}
+use Rattle.reql_spell.proofs.spell.+write.Given as goal
 
 abbrev pub decreases-write : goal.decreases-write
 decreases-write l = weight (plain l.d.now)
