@@ -1,7 +1,9 @@
 // The calls on an object.
-ghost use Rattle.std.specs.Prelude.{◌≡◌, [], ◌∷◌, length, map, is_ok, IfOk, IfErr, OnSome, MatchOption, drop, ◌+◌, ◌^◌, ◌<◌, option_map, slice_get, nat_eq, if◌then◌else◌};
+ghost use Rattle.std.specs.Prelude.{◌≡◌, [], ◌∷◌, length, map, is_ok, IfOk, IfErr, OnOk, OnSome, MatchOption, drop, ◌+◌, ◌^◌, ◌<◌, option_map, slice_get, nat_eq, if◌then◌else◌};
 ghost use Rattle.reql_datum.specs.Kinds.{is_storable};
-ghost use Rattle.reql_datum.specs.Members.{find, put, without, AreRising};
+ghost use Rattle.std.specs.Map.{keys_of};
+ghost use Rattle.reql_memory.specs.Sorted.{IsGapBy};
+ghost use Rattle.reql_datum.specs.Members.{text_order, find, put, without, AreRising};
 ghost use Rattle.reql_datum.specs.Plain.{object, pairs_of};
 ghost use Rattle.reql_datum.specs.Shapes.{members_shape};
 ghost use Rattle.reql_datum.specs.View.{plain, member};
@@ -15,6 +17,20 @@ use std::alloc::Global;
 
 // An object of up to so many names takes no more memory than at its first.
 const ROOM: usize = 12;
+
+// Among so many members or fewer, a name is looked for in one after another.
+const FEW: usize = 8;
+
+fn value_at<'a>(members: &'a [Field], name: &str) -> Option<&'a Datum>
+    ensures { option_map (λ d. plain d.now) result ≡ find name.now (map member members.now) }
+{
+    for field in members {
+        if field.name.is(name) {
+            return Some(&field.value);
+        }
+    }
+    None
+}
 
 impl Fields {
     /// The object without members, which takes no memory.
@@ -51,7 +67,11 @@ impl Fields {
     pub fn get(&self, name: &str) -> Option<&Datum>
         ensures { option_map (λ d. plain d.now) result ≡ find name.now self.now }
     {
-        sorted_map::get(self.members(), &name)
+        let members = self.members();
+        if members.len() > FEW {
+            return sorted_map::get(members, &name);
+        }
+        value_at(members, name)
     }
 
     /// Puts a value at a name, and gives the value that it replaced.
@@ -73,6 +93,29 @@ impl Fields {
             }
             Err(refused) => Err(refused),
         }
+    }
+
+    /// Puts a value at a name, and lets go of the one that it replaced. A name above all others, as
+    /// most are put, takes less than by `put`.
+    pub fn set(&mut self, name: Name, value: Datum) -> Result<(), Memory>
+        ensures { OnOk result (self.new ≡ put name (plain value) self.old) }
+    {
+        if sorted_map::is_above(shown(&self.held), &name) {
+            return self.put_last(name, value);
+        }
+        drop(self.put(name, value)?);
+        Ok(())
+    }
+
+    fn put_last(&mut self, name: Name, value: Datum) -> Result<(), Memory>
+        requires { IsGapBy text_order (keys_of self.old) name (length self.old) }
+        ensures { self.new ≡ (if is_ok result then put name (plain value) self.old
+            else self.old) }
+    {
+        let new = member_shape(&name, &value);
+        sorted_map::put_last(self.alloc, &mut self.held, ROOM, name, value)?;
+        self.shape = self.shape.beside(new);
+        Ok(())
     }
 
     /// Removes a name with its value, and gives the value. Memory where a shared object can't be

@@ -1,6 +1,6 @@
 // A text, seen as its bytes.
 ghost use Rattle.std.specs.Prelude.{◌≡◌, IfOk};
-ghost use Rattle.std.specs.Ordering.{MatchOrdering};
+ghost use Rattle.std.specs.Ordering.{MatchOrdering, is_eq};
 ghost use Rattle.reql_datum.specs.Members.{text_order};
 ghost use Rattle.reql_datum.specs.Order.{text_less};
 
@@ -34,14 +34,29 @@ impl Model for Name {
     ghost view = { λ a. chars_bytes a.chars };
 }
 
-// How two texts stand by their bytes. Most differ in the first one, which is looked at before all.
+// So many bytes of two texts are compared one by one, before the kit compares the others.
+const NEAR: usize = 16;
+
+// How two texts stand by their bytes. Most are short, or differ in the first ones.
 pub(crate) fn text_order(a: &str, b: &str) -> Ordering
     ensures { result ≡ text_order a.now b.now }
 {
-    match (a.as_bytes().first(), b.as_bytes().first()) {
-        (Some(x), Some(y)) if x != y => x.cmp(y),
-        _ => a.cmp(b),
+    let (a, b) = (a.as_bytes(), b.as_bytes());
+    let mut place = 0;
+    while place < NEAR {
+        match (a.get(place), b.get(place)) {
+            (Some(x), Some(y)) => {
+                if x != y {
+                    return x.cmp(y);
+                }
+            }
+            (None, Some(_)) => return Ordering::Less,
+            (Some(_), None) => return Ordering::Greater,
+            (None, None) => return Ordering::Equal,
+        }
+        place += 1;
     }
+    a[place..].cmp(&b[place..])
 }
 
 impl Name {
@@ -68,6 +83,14 @@ impl Name {
             Chars::Short(short) => short.as_str(),
             Chars::Shared(shared) => shared.as_str(),
         }
+    }
+
+    /// Whether it is this text. Most others have another length.
+    pub(crate) fn is(&self, text: &str) -> bool
+        ensures { result ≡ is_eq (text_order text.now self.now) }
+    {
+        let own = self.as_str();
+        own.len() == text.len() && text_order(text, own).is_eq()
     }
 
     /// How it stands to a text, by their bytes, which is by code points.

@@ -1,5 +1,5 @@
 -- A list that holds a map: each of its entries stands for a key and a value, and the keys rise.
-use Rattle.std.proofs.Common.{◌≡◌, ℕ, zero, suc, ◌<◌, ◌-◌, List, [], ◌∷◌, length, get_or, set, map, Some, Result, IfOk, IfErr, slice_get, Ordering, Less, Equal, Greater, true, refl, sym, ap, ◌∙◌}
+use Rattle.std.proofs.Common.{◌≡◌, ℕ, zero, suc, ◌<◌, ◌-◌, List, [], ◌∷◌, ◌++◌, length, get_or, set, map, Some, Result, IfOk, IfErr, slice_get, Ordering, Less, Equal, Greater, true, refl, sym, ap, ◌∙◌}
 use Rattle.std.specs.List.{insert, remove}
 use Rattle.std.specs.List.Sorted.{IsSearchInRange, IsBinarySearchResult}
 use Rattle.std.specs.Map.{keys_of}
@@ -64,6 +64,14 @@ module _ {K : Type 0} (cmp : K → K → Ordering) (total : IsTotalOrder cmp) {R
   -- an entry that stands for k and v
   pub held_insert_as : (rs : List R) (i : ℕ) (y : R) (k : K) (v : V) → pair y ≡ (k, v) → IsGapBy cmp (keys_of (map pair rs)) k i → map pair (insert rs i y) ≡ put_by cmp k v (map pair rs)
   held_insert_as rs i y k v is gap = map-insert pair rs i y ∙ ap (insert (map pair rs) i) is ∙ insert_gap cmp total (map pair rs) k v i gap
+
+  insert_end : (rs : List R) (y : R) → insert rs (length rs) y ≡ rs ++ y ∷ []
+  insert_end [] y = refl
+  insert_end (r ∷ rs) y = ap (λ t. r ∷ t) (insert_end rs y)
+
+  -- an entry after all others
+  pub held_last : (rs : List R) (y : R) (k : K) (v : V) → pair y ≡ (k, v) → IsGapBy cmp (keys_of (map pair rs)) k (length rs) → map pair (rs ++ y ∷ []) ≡ put_by cmp k v (map pair rs)
+  held_last rs y k v is gap = ap (map pair) (sym (insert_end rs y)) ∙ held_insert_as rs (length rs) y k v is gap
 
   pub held_remove : (rs : List R) (k : K) (i : ℕ) → IsHitBy cmp (keys_of (map pair rs)) k i → map pair (remove rs i) ≡ without_by cmp k (map pair rs)
   held_remove rs k i hit = map-remove pair rs i ∙ remove_hit cmp total (map pair rs) k i hit

@@ -1,7 +1,7 @@
 //! Maps as vectors of entries by rising keys, and as such vectors copied on write: calls on the
 //! field that holds one. A look-up takes a logarithm of steps; an entry goes in and out by moving
 //! those behind it.
-ghost use Rattle.std.specs.Prelude.{◌≡◌, length, map, is_ok, IfOk, IfErr, option_map, if◌then◌else◌};
+ghost use Rattle.std.specs.Prelude.{◌≡◌, length, map, is_ok, IfOk, IfErr, IsTrue, option_map, if◌then◌else◌};
 ghost use Rattle.std.specs.Cmp.{IsTotalOrder};
 ghost use Rattle.std.specs.List.Sorted.{IsSearchInRange};
 ghost use Rattle.std.specs.Map.{keys_of};
@@ -212,6 +212,50 @@ pub fn put_shared<E: Entry + Clone>(
         Some(list) => match Arc::get_mut(list) {
             None => Err(Refused { back: (key, value) }),
             Some(entries) => put(entries, key, value),
+        },
+    }
+}
+
+/// Whether a key is above all others, which takes one comparison.
+pub fn is_above<E: Entry>(held: &[E], key: &E::Key) -> bool
+    requires rising { AreRisingBy E.order_by (map E.pair held.now) }
+    ensures { IsTrue result → IsGapBy E.order_by (keys_of (map E.pair held.now))
+        (E.key_seen key.now) (length held.now) }
+{
+    match held.last() {
+        Some(last) => last.order(key).is_lt(),
+        None => true,
+    }
+}
+
+/// Puts a value at a key that is above all others, into a vector that is copied where it is shared,
+/// with room for so many more entries where it is made or copied.
+pub fn put_last<E: Entry + Clone>(
+    alloc: Global,
+    held: &mut Option<Arc<Vec<E>>>,
+    room: usize,
+    key: E::Key,
+    value: E::Value,
+) -> Result<(), Memory>
+    requires exact { (x y : E) → E.is_clone x y → y ≡ x }
+    requires rising { AreRisingBy E.order_by (map E.pair (held_items held.old)) }
+    requires above { IsGapBy E.order_by (keys_of (map E.pair (held_items held.old)))
+        (E.key_seen key) (length (held_items held.old)) }
+    ensures entries { map E.pair (held_items held.new)
+        ≡ (if is_ok result
+        then put_by E.order_by (E.key_seen key) (E.value_seen value) (map E.pair (held_items held.old))
+        else map E.pair (held_items held.old)) }
+    ensures rising { AreRisingBy E.order_by (map E.pair (held_items held.new)) }
+{
+    own(alloc, held, room)?;
+    match held {
+        None => Err(Memory),
+        Some(list) => match Arc::get_mut(list) {
+            None => Err(Memory),
+            Some(entries) => {
+                entries.push(E::of(key, value))?;
+                Ok(())
+            }
         },
     }
 }
