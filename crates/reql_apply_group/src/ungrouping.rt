@@ -20,8 +20,8 @@ fn reduction(alloc: Global, group: &Name, reduction: &Name, of: &Group) -> Resul
     ensures { IfOk result (λ d. plain d ≡ reduction_of (group_seen of.now)) }
 {
     let mut fields = Fields::with_room(alloc, 2)?;
-    drop(fields.put(group.copy()?, of.group.copy()?)?);
-    drop(fields.put(reduction.copy()?, of.value.copy()?)?);
+    fields.set(group.copy()?, of.group.copy()?)?;
+    fields.set(reduction.copy()?, of.value.copy()?)?;
     Ok(Datum::Obj(fields))
 }
 

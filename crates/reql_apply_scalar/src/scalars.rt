@@ -75,7 +75,7 @@ fn put(alloc: Global, fields: &mut Fields, name: &str, value: Datum) -> Result<(
     ensures { IfOk result (λ _. fields.new ≡ put name.now (plain value) fields.old) }
 {
     let key = Name::of(alloc, name)?;
-    drop(fields.put(key, value)?);
+    fields.set(key, value)?;
     Ok(())
 }
 

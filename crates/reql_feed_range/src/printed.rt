@@ -196,7 +196,7 @@ fn put(fields: &mut Fields, name: &Name, value: Datum) -> Result<(), Memory>
     ensures { OnOk result (fields.new ≡ put_of name.now (plain value) fields.old) }
 {
     let key = name.copy()?;
-    drop(fields.put(key, value)?);
+    fields.set(key, value)?;
     Ok(())
 }
 

@@ -38,7 +38,7 @@ impl Sides {
         ensures { IfOk result (λ d. plain d ≡ of_left (plain left.now)) }
     {
         let mut fields = Fields::with_room(self.alloc, 1)?;
-        drop(fields.put(self.left.copy()?, left.copy()?)?);
+        fields.set(self.left.copy()?, left.copy()?)?;
         Ok(Datum::Obj(fields))
     }
 
@@ -47,8 +47,8 @@ impl Sides {
         ensures { IfOk result (λ d. plain d ≡ of_both (plain left.now) (plain right.now)) }
     {
         let mut fields = Fields::with_room(self.alloc, 2)?;
-        drop(fields.put(self.left.copy()?, left.copy()?)?);
-        drop(fields.put(self.right.copy()?, right.copy()?)?);
+        fields.set(self.left.copy()?, left.copy()?)?;
+        fields.set(self.right.copy()?, right.copy()?)?;
         Ok(Datum::Obj(fields))
     }
 

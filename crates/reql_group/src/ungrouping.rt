@@ -42,8 +42,8 @@ impl Words {
         ensures { IfOk result (λ d. plain d ≡ reduction (plain group.now, plain datum.now)) }
     {
         let mut fields = Fields::with_room(self.alloc, 2)?;
-        drop(fields.put(self.group.copy()?, group.copy()?)?);
-        drop(fields.put(self.reduction.copy()?, datum.copy()?)?);
+        fields.set(self.group.copy()?, group.copy()?)?;
+        fields.set(self.reduction.copy()?, datum.copy()?)?;
         Ok(Datum::Obj(fields))
     }
 }

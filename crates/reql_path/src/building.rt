@@ -12,7 +12,7 @@ pub(crate) fn put_copy(fields: &mut Fields, name: &Name, value: &Datum) -> Resul
 {
     let key = name.copy()?;
     let copied = value.copy()?;
-    drop(fields.put(key, copied)?);
+    fields.set(key, copied)?;
     Ok(())
 }
 
@@ -25,7 +25,7 @@ pub(crate) fn put_also(fields: &mut Fields, name: &Name, value: Option<Datum>) -
         return Ok(());
     };
     let key = name.copy()?;
-    drop(fields.put(key, value)?);
+    fields.set(key, value)?;
     Ok(())
 }
 

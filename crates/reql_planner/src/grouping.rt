@@ -26,7 +26,7 @@ fn set(alloc: Global, fields: &mut Fields, name: &str, value: Datum) -> Result<(
     ensures { OnOk result (fields.new ≡ put name.now (plain value) fields.old) }
 {
     let name = Name::of(alloc, name)?;
-    drop(fields.put(name, value)?);
+    fields.set(name, value)?;
     Ok(())
 }
 

@@ -135,7 +135,7 @@ pub(crate) fn put_new(
 pub(crate) fn put(fields: &mut Fields, name: Name, value: Datum) -> Result<(), Memory>
     ensures { IfOk result (λ _. fields.new ≡ put name (plain value) fields.old) }
 {
-    drop(fields.put(name, value)?);
+    fields.set(name, value)?;
     Ok(())
 }
 

@@ -59,8 +59,6 @@ fn put_last(fields: &mut Fields, name: Name, d: Datum) -> Result<(), Memory>
         IsStrictlySortedBy text_order (keys_of fields.old ++ name ∷ later)
         → IfOk result (λ u. fields.new ≡ fields.old ++ (name, plain d) ∷ []) }
 {
-    match fields.put(name, d) {
-        Ok(_) => Ok(()),
-        Err(_) => Err(Memory),
-    }
+    fields.set(name, d)?;
+    Ok(())
 }

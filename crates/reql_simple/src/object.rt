@@ -107,11 +107,8 @@ fn put_copy(members: &mut Fields, name: &Name, d: Datum) -> Result<(), Memory>
         IsStrictlySortedBy text_order (keys_of members.old ++ name.now ∷ later)
         → IfOk result (λ u. members.new ≡ members.old ++ (name.now, plain d) ∷ []) }
 {
-    let key = name.copy()?;
-    match members.put(key, d) {
-        Ok(_) => Ok(()),
-        Err(_) => Err(Memory),
-    }
+    members.set(name.copy()?, d)?;
+    Ok(())
 }
 
 // The object of members that were found, within the limits.

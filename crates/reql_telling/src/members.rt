@@ -29,9 +29,7 @@ pub(crate) fn set(
 ) -> Result<(), Memory>
     ensures { OnOk result (fields.new ≡ put name.now (plain value) fields.old) }
 {
-    let name = Name::of(alloc, name)?;
-    drop(fields.put(name, value)?);
-    Ok(())
+    fields.set(Name::of(alloc, name)?, value)
 }
 
 /// Puts a count at a name.

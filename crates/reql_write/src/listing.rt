@@ -57,8 +57,8 @@ fn between(
         (option_map (λ d. plain d.now) old.entry) (option_map (λ d. plain d.now) new.entry)) }
 {
     let mut fields = Fields::with_room(alloc, 3)?;
-    drop(fields.put(labels.new.copy()?, or_null(new)?)?);
-    drop(fields.put(labels.old.copy()?, or_null(old)?)?);
+    fields.set(labels.new.copy()?, or_null(new)?)?;
+    fields.set(labels.old.copy()?, or_null(old)?)?;
     Ok(fields)
 }
 
@@ -76,7 +76,7 @@ fn beside_error(
         (option_map (λ d. plain d.now) old.entry)) }
 {
     let mut fields = between(alloc, labels, old, old)?;
-    drop(fields.put(labels.error.copy()?, Datum::Text(why.copy()?))?);
+    fields.set(labels.error.copy()?, Datum::Text(why.copy()?))?;
     Ok(fields)
 }
 

@@ -2,12 +2,12 @@ use Rattle.std.proofs.Common.{◌≡◌, ◌≤◌, ◌-◌, length, drop}
 use Rattle.reql_datum.specs.Members.{text_order}
 use Rattle.reql_datum.proofs.name.text_order.Given as goal
 
-abbrev pub invariant : goal.invariant
-invariant l = record {
-  same : text_order (drop l.place l.a.now) (drop l.place l.b.now) ≡ text_order l.a.now l.b.now;
-  in_a : l.place ≤ length l.a.now;
-  in_b : l.place ≤ length l.b.now;
+abbrev pub invariant-loop-place : goal.invariant-loop-place
+invariant-loop-place l = record {
+  same : text_order (drop l.place l.a) (drop l.place l.b) ≡ text_order l.a l.b;
+  in_a : l.place ≤ length l.a;
+  in_b : l.place ≤ length l.b;
 }
 
-abbrev pub decreases : goal.decreases
-decreases l = 16 - l.place
+abbrev pub decreases-loop-place : goal.decreases-loop-place
+decreases-loop-place l = 16 - l.place
