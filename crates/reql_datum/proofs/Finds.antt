@@ -1,5 +1,5 @@
 -- What is found after an edit.
-use Rattle.std.proofs.Common.{◌≡◌, ℕ, List, true, if◌then◌else◌, Some, None, Ordering, Less, Equal, Greater, is_eq, sym, subst}
+use Rattle.std.proofs.Common.{◌≡◌, ℕ, List, length, ap, true, false, if◌then◌else◌, Some, None, Ordering, Less, Equal, Greater, is_eq, refl, sym, subst}
 use Rattle.std.specs.Ordering.{MatchOrdering}
 use Rattle.std.proofs.lemmas.Cmp.{nat_list_cmp_total}
 use Rattle.reql_memory.proofs.Finds.{is_equal}
@@ -15,6 +15,12 @@ equal_at Greater s t e h = cc
 
 pub equal_texts : (s t : List ℕ) → text_order s t ≡ Equal → s ≡ t
 equal_texts s t e = equal_at (text_order s t) s t e (text_means s t)
+
+-- texts of other lengths are other texts
+pub other_length : (o : Ordering) (s t : List ℕ) → text_order t s ≡ o → (length s ≡ length t → ⊥) → false ≡ is_eq o
+other_length Less s t e h = refl
+other_length Equal s t e h = absurd (h (ap length (sym (equal_texts t s e))))
+other_length Greater s t e h = refl
 
 -- what is so of a name is so of one that is found there
 pub found_at : (q k : List ℕ) → is_eq (text_order q k) ≡ true → (P : List ℕ → Type 0) → P k → P q

@@ -21,13 +21,16 @@ const ROOM: usize = 12;
 // Among so many members or fewer, a name is looked for in one after another.
 const FEW: usize = 8;
 
+#[tactic(auto, using(crate::proofs::Walks::walks))]
 fn value_at<'a>(members: &'a [Field], name: &str) -> Option<&'a Datum>
     ensures { option_map (λ d. plain d.now) result ≡ find name.now (map member members.now) }
 {
-    for field in members {
+    let mut place = 0;
+    while let Some(field) = members.get(place) {
         if field.name.is(name) {
             return Some(&field.value);
         }
+        place += 1;
     }
     None
 }

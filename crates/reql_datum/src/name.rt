@@ -90,7 +90,10 @@ impl Name {
         ensures { result ≡ is_eq (text_order text.now self.now) }
     {
         let own = self.as_str();
-        own.len() == text.len() && text_order(text, own).is_eq()
+        if own.len() != text.len() {
+            return false;
+        }
+        text_order(text, own).is_eq()
     }
 
     /// How it stands to a text, by their bytes, which is by code points.
