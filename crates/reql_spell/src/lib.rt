@@ -1,6 +1,12 @@
-//! Documents written as the text of their JSON value, with no value made for it.
+//! Documents spelled: the bytes of their JSON values, appended to those of an answer, with no value
+//! made for them.
 #![tactic(auto)]
 
+mod numbers;
+mod plain;
 mod spell;
+mod texts;
 
-pub use spell::{document_text, write_document, written};
+pub use numbers::{append_from, append_item, put_byte, write_number};
+pub use spell::{document_text, write_document};
+pub use texts::write_text;

@@ -1,12 +1,10 @@
 // JSON read to documents, and documents shown.
-use json::Writer;
 use reql_datum::Datum;
-use reql_json::{
-    JsonFault, ShowFault, document_text, from_value, text, to_value, write_document, written,
-};
+use reql_json::{JsonFault, ShowFault, from_value, text, to_value};
+use reql_spell::{document_text, write_document};
 use rows_reader::{number, word};
 use serde_json::Value;
-use std::alloc::Global;
+use std::alloc::{AllocError, Global};
 
 fn unread(fault: JsonFault) -> &'static str {
     match fault {
@@ -67,15 +65,12 @@ fn document(alloc: Global, source: &str) -> Option<Datum> {
     from_value(alloc, &value).ok()
 }
 
-fn answer(alloc: Global, document: &Datum) -> Result<Vec<u8>, ShowFault> {
-    let mut out = Writer::new(Vec::new(alloc));
-    out.begin_object()?;
-    out.key("r")?;
-    let mut out = write_document(alloc, out, document)?;
-    out.key("t")?;
-    out.u64(2)?;
-    out.end_object()?;
-    Ok(written(out))
+fn answer(alloc: Global, document: &Datum) -> Result<Vec<u8>, AllocError> {
+    let mut out = Vec::new(alloc);
+    out.extend_from_slice(b"{\"r\":")?;
+    write_document(&mut out, document)?;
+    out.extend_from_slice(b",\"t\":2}")?;
+    Ok(out)
 }
 
 fn answered(alloc: Global, source: &str) -> Option<String> {

@@ -1,7 +1,8 @@
 // Documents as rows write them.
 use crate::marked::marked;
 use reql_datum::{Datum, Fields, Items};
-use reql_json::{document_text, from_value};
+use reql_json::from_value;
+use reql_spell::document_text;
 use serde_json::Value;
 use std::alloc::Global;
 

@@ -1,7 +1,13 @@
-use Rattle.reql_spell.proofs.Spelled.{binary_written}
+use Rattle.std.proofs.Common.{◌++◌, codes, ap, ◌∙◌, arith}
+use Rattle.base64.specs.Engines.{standard}
+use Rattle.base64.specs.GeneralPurpose.{encode_of}
+use Rattle.reql_json.proofs.Symbols.{bytes_from, escape_encoded}
+use Rattle.reql_spell.proofs.Spelled.{binary_spelled}
 use Rattle.reql_spell.proofs.spell.write_binary.Goals as goal
 
-pub returns-clause-text : goal.returns-clause-text
-returns-clause-text c =
-    binary_written c.args.out.now c.open_binary.new.out c.in_ok-out.field-0 c.end_object.new.self c.args.bytes.now c.in_ok-open_binary.ensures.before c.in_ok-open_binary.ensures.tokens
-    (rw c.replace-held.ensures.value at c.in_ok-out.ensures.text) c.end_object.ensures.room.0 c.in_ok-end_object.ensures.ok
+pub returns : goal.returns
+returns c =
+    let s = c.args.bytes.now in
+    let plain = escape_encoded s (bytes_from s (λ i. let typed = c.type_inv.bytes i in omega arith)) in
+    let first = c.in_ok-append_encoded.ensures ∙ ap (λ t. t ++ encode_of standard s) c.in_ok-extend_from_slice.ensures.items in
+    c.in_ok-extend_from_slice-2.ensures.items ∙ ap (λ t. t ++ codes "\"}") first ∙ binary_spelled c.args.out.now.items s plain
