@@ -1,12 +1,11 @@
 -- The bodies of answers: compact JSON, with the names of an object in the order of their bytes (RethinkDB's guide on
 -- writing drivers; `Response` of ql2.proto).
-use Rattle.std.specs.Prelude.{ℕ, nat_lt, List, [], ◌∷◌, ◌++◌, length, map, Option, Some, None, option_map, cond, codes}
+use Rattle.std.specs.Prelude.{ℕ, List, [], ◌∷◌, ◌++◌, map, Option, Some, None, option_map, codes}
 use Rattle.serde_json.specs.Data as json
 use Rattle.serde_json.specs.View as seen
 use Rattle.serde_json.specs.Written.{compact_text}
-use Rattle.reql_datum.specs.Plain.{Plain}
 use Rattle.reql_datum.specs.declared.point.Point.{Point}
-use Rattle.reql_json.specs.Showing.{value, members_of}
+use Rattle.reql_json.specs.Showing.{members_of}
 use Rattle.reql_answer.specs.declared.stamp.Stamp.{Stamp}
 use Rattle.reql_answer.specs.declared.error.ErrorType.{ErrorType}
 use Rattle.reql_answer.specs.declared.error.ErrorType.TheVariants as errors
@@ -77,24 +76,3 @@ internal = fault errors.Internal (codes "Out of memory.") None
 
 abbrev pub body : Answer → List ℕ
 body answer = compact_text (json.object (members_of answer))
-
--- the longest body of an answer, in bytes; a longer one gives way to a fault
-abbrev pub longest : ℕ
-longest = 268435456
-
-abbrev pub too_long : Option Stamped → List ℕ
-too_long stamp = body (fault errors.ResourceLimit (codes "Answer over size limit `268435456`.") stamp)
-
-abbrev pub unshowable : Option Stamped → List ℕ
-unshowable stamp = body (fault errors.QueryLogic (codes "Value cannot be shown or stored.") stamp)
-
-abbrev pub within : List ℕ → Option Stamped → List ℕ
-within text stamp = cond (nat_lt longest (length text)) (too_long stamp) text
-
--- the answer of one value, type 1
-abbrev pub atom_of : Option json.Data → Option Stamped → List ℕ
-atom_of None stamp = unshowable stamp
-atom_of (Some d) stamp = within (body (results 1 [] None (d ∷ []) stamp)) stamp
-
-abbrev pub atom : Plain → Option Stamped → List ℕ
-atom v stamp = atom_of (value v) stamp

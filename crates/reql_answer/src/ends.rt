@@ -1,5 +1,5 @@
-// What stands around the values of an answer, written as bytes: its end, points and numbers.
-ghost use Rattle.std.specs.Prelude.{◌≡◌, ◌+◌, ◌≤◌, ◌∷◌, ◌++◌, length, drop, codes, decimal, option_map, OnOk, false};
+// What stands after the results of an answer, written as bytes.
+ghost use Rattle.std.specs.Prelude.{◌≡◌, ◌≤◌, ◌++◌, drop, codes, decimal, option_map, OnOk, false};
 ghost use Rattle.serde_json.specs.Written.{comma_if};
 ghost use Rattle.reql_answer.specs.Body.{stamped_by};
 ghost use Rattle.reql_answer.specs.Ending.{point_text, points_text, stamp_text, kind_text, end_text};
@@ -7,34 +7,14 @@ ghost use Rattle.reql_answer.specs.Ending.{point_text, points_text, stamp_text, 
 use crate::stamp::Stamp;
 use itoa::write_digits;
 use reql_datum::Point;
+use reql_spell::{append_from, append_item, put_byte};
 use std::alloc::AllocError;
 
 // How many digits the longest number has.
 pub(crate) const DIGITS: usize = 20;
 
-// The bytes of the longest number and a comma, and more.
-const NUMBER_BYTES: usize = 24;
-
 // The bytes of the longest point and a comma, and more: three numbers, two brackets and three commas.
 const POINT_BYTES: usize = 72;
-
-// Puts a byte before what stands from `end` on, and returns its place.
-fn put_byte(text: &mut [u8], end: usize, byte: u8) -> usize
-    requires { (1 ≤ end) × (end ≤ length text.old) }
-    ensures start { result + 1 ≡ end }
-    ensures written { drop result text.new ≡ byte ∷ drop end text.old }
-{
-    text[end - 1] = byte;
-    end - 1
-}
-
-// Appends what stands from `start` on.
-pub(crate) fn append_from(out: &mut Vec<u8>, text: &[u8], start: usize) -> Result<(), AllocError>
-    requires { start ≤ length text.now }
-    ensures { OnOk result (out.new.items ≡ out.old.items ++ drop start text.now) }
-{
-    Ok(out.extend_from_slice(&text[start..])?)
-}
 
 // Puts a point at the end, and returns where it starts.
 fn put_point(text: &mut [u8; POINT_BYTES], point: Point) -> usize
@@ -48,32 +28,6 @@ fn put_point(text: &mut [u8; POINT_BYTES], point: Point) -> usize
     let before = put_byte(text, place, b',');
     let slot = write_digits(u64::from(point.slot), text, before);
     put_byte(text, slot, b'[')
-}
-
-// Appends what stands from `start` on, with a comma before it where a value stands there.
-fn append_item(
-    out: &mut Vec<u8>,
-    later: bool,
-    text: &mut [u8],
-    start: usize,
-) -> Result<(), AllocError>
-    requires { (1 ≤ start) × (start ≤ length text.old) }
-    ensures { OnOk result (out.new.items ≡ out.old.items ++ (comma_if later ++ drop start text.old)) }
-{
-    if !later {
-        return Ok(append_from(out, text, start)?);
-    }
-    let comma = put_byte(text, start, b',');
-    Ok(append_from(out, text, comma)?)
-}
-
-/// Appends a number, with a comma before it where a value stands there.
-pub fn write_number(out: &mut Vec<u8>, later: bool, n: u64) -> Result<(), AllocError>
-    ensures { OnOk result (out.new.items ≡ out.old.items ++ (comma_if later ++ decimal n)) }
-{
-    let mut text = [0; NUMBER_BYTES];
-    let start = write_digits(n, &mut text, NUMBER_BYTES);
-    Ok(append_item(out, later, &mut text, start)?)
 }
 
 // A point, with a comma before it where another stands there.

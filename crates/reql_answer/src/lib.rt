@@ -5,12 +5,10 @@ mod ends;
 mod error;
 mod fixed;
 mod refusals;
-mod results;
 mod stamp;
 
-pub use ends::{write_end, write_number};
+pub use ends::write_end;
 pub use error::ErrorType;
 pub use fixed::{INTERNAL, internal};
 pub use refusals::{fault, refusal};
-pub use results::atom;
 pub use stamp::Stamp;

@@ -5,25 +5,16 @@ ghost use Rattle.reql_answer.specs.Body.{body, code_of, stamped_by};
 ghost use Rattle.reql_answer.specs.Body.{refusal as refusal_answer, fault as fault_answer};
 ghost use Rattle.reql_answer.specs.Ending.{end_text};
 
-use crate::ends::{DIGITS, append_from, write_end};
+use crate::ends::{DIGITS, write_end};
 use crate::error::ErrorType;
 use crate::stamp::Stamp;
 use itoa::write_digits;
-use json::Writer;
 use reql_datum::Memory;
+use reql_spell::{append_from, write_text};
 use std::alloc::{AllocError, Global};
 
 // The bytes that are taken for a short answer at first.
 const SHORT_BYTES: usize = 160;
-
-// A text in quotes after some bytes.
-fn quote(bytes: Vec<u8>, text: &str) -> Result<Vec<u8>, AllocError>
-    ensures { IfOk result (λ b. b.items ≡ bytes.items ++ quoted text.now) }
-{
-    let mut out = Writer::new(bytes);
-    out.string(text)?;
-    Ok(out.into_inner())
-}
 
 // What stands before the text of a refusal.
 fn begin_refusal(alloc: Global) -> Result<Vec<u8>, AllocError>
@@ -57,7 +48,8 @@ fn because(
     ensures { IfOk result (λ b. b.items ≡ bytes.items ++ quoted why.now ++ codes "]"
         ++ end_text kind (option_map stamped_by stamp.entry)) }
 {
-    let mut told = quote(bytes, why)?;
+    let mut told = bytes;
+    write_text(&mut told, why)?;
     told.extend_from_slice(b"]")?;
     write_end(&mut told, kind, stamp)?;
     Ok(told)

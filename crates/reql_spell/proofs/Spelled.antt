@@ -9,7 +9,7 @@ use Rattle.base64.specs.GeneralPurpose.{encode_of}
 use Rattle.reql_datum.specs.Zone.{zone_text}
 use Rattle.reql_json.specs.Literal.{binary_shown, time_shown}
 
-pub number_spelled : (z : ℤ) → number_text (of_integer z) ≡ signed_decimal z
+number_spelled : (z : ℤ) → number_text (of_integer z) ≡ signed_decimal z
 number_spelled (pos n) = refl
 number_spelled (negsuc n) = refl
 
