@@ -1,0 +1,107 @@
+// Tables that rows describe.
+use reql_datum::{Datum, Fields, Name};
+use reql_law::Look;
+use reql_table::{Change, IndexDef, Table};
+use reql_term::{Body, Op, Params, Term, TermFields, Terms};
+use rows_reader::{list, number, object, text};
+use std::alloc::Global;
+
+/// The number of a name, 0 where it is left out.
+pub(crate) fn count_in(fields: &Fields, name: &str) -> Option<u64> {
+    match fields.get(name) {
+        None => Some(0),
+        Some(value) => u64::try_from(number(value)?).ok(),
+    }
+}
+
+/// A look at a table, or at one that was dropped.
+pub(crate) fn look_of(alloc: Global, described: &Datum) -> Option<Look<Table>> {
+    match object(described) {
+        Some(fields) => table_seen(alloc, fields),
+        None => Some(Look {
+            place: 0,
+            stamp: 0,
+            view: None,
+        }),
+    }
+}
+
+fn table_seen(alloc: Global, fields: &Fields) -> Option<Look<Table>> {
+    let place = count_in(fields, "place")?;
+    let stamp = count_in(fields, "stamp")?;
+    let documents = with_documents(alloc, fields.get("docs"))?;
+    let table = with_indexes(alloc, documents, fields.get("indexes"))?;
+    Some(Look {
+        place,
+        stamp,
+        view: Some(table),
+    })
+}
+
+fn with_documents(alloc: Global, documents: Option<&Datum>) -> Option<Table> {
+    let mut table = Table::new(alloc);
+    let Some(documents) = documents else {
+        return Some(table);
+    };
+    for document in list(documents)?.as_slice() {
+        add_document(&mut table, document)?;
+    }
+    Some(table)
+}
+
+// A document is put in at its field `id`.
+fn add_document(table: &mut Table, document: &Datum) -> Option<()> {
+    let key = object(document)?.get("id")?.copy().ok()?;
+    let new = document.copy().ok()?;
+    let changes = [Change {
+        key,
+        old: None,
+        new: Some(new),
+    }];
+    let prepared = table.prepare(&changes);
+    drop(changes);
+    table.install(prepared.ok()?);
+    Some(())
+}
+
+fn with_indexes(alloc: Global, bare: Table, names: Option<&Datum>) -> Option<Table> {
+    let mut table = bare;
+    let Some(names) = names else {
+        return Some(table);
+    };
+    for name in list(names)?.as_slice() {
+        table = with_index(alloc, &table, name)?;
+    }
+    Some(table)
+}
+
+// A name, or a list of it for an index whose values are the members of arrays.
+fn with_index(alloc: Global, table: &Table, name: &Datum) -> Option<Table> {
+    let index = match list(name) {
+        None => index_of(alloc, text(name)?, false)?,
+        Some(names) => index_of(alloc, text(names.at(0)?)?, true)?,
+    };
+    table.with_index(&index).ok()
+}
+
+// The index of the field of a name.
+fn index_of(alloc: Global, name: &str, multi: bool) -> Option<IndexDef> {
+    let mut params = Params::new(alloc);
+    params.push(0).ok()?;
+    let field = Term::Func(params, Body::new(alloc, field_of(alloc, name)?).ok()?);
+    let name = Name::of(alloc, name).ok()?;
+    let func = Body::new(alloc, field).ok()?;
+    Some(IndexDef { name, func, multi })
+}
+
+fn field_of(alloc: Global, name: &str) -> Option<Term> {
+    let mut args = Terms::new(alloc);
+    args.push(Term::Var(0)).ok()?;
+    args.push(Term::Lit(Datum::Text(Name::of(alloc, name).ok()?)))
+        .ok()?;
+    Some(Term::Op {
+        op: Op::GetField,
+        args,
+        opts: TermFields::new(alloc),
+    })
+}
