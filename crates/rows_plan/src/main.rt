@@ -9,8 +9,9 @@
 //!
 //! An answer is an object of one name. `names` lists what the catalogue holds, each as `[db]`,
 //! `[db,table]` or `[db,table,key field]`, the tables in the order of their slots. `told` is what the
-//! clock tells, or null. `look` is a table: its `docs`, its `indexes` (a name, or `[name]` for a multi
-//! index) and its `place` and `stamp`, each left out where it is empty or 0; or null where it was dropped.
+//! clock tells, or null. `look` is a table: its `docs`, its `indexes` (a name, `[name]` for a multi
+//! index, or a name with the fields of a compound one) and its `place` and `stamp`, each left out where
+//! it is empty or 0; or null where it was dropped.
 //! `rolled` is the first of 16 rising bytes of the dice, or null. `changed` is what the catalogue says:
 //! a word, or a list of the slots that a drop emptied. Of a table `done` is the summary of a write,
 //! `opened` a feed with its `feed`, `stamp` and `items`, `said` any other reply as a word, and `saved` a

@@ -1,5 +1,5 @@
 // Tables that rows describe.
-use reql_datum::{Datum, Fields, Name};
+use reql_datum::{Datum, Fields, Items, Name};
 use reql_law::Look;
 use reql_table::{Change, IndexDef, Table};
 use reql_term::{Body, Op, Params, Term, TermFields, Terms};
@@ -75,33 +75,57 @@ fn with_indexes(alloc: Global, bare: Table, names: Option<&Datum>) -> Option<Tab
     Some(table)
 }
 
-// A name, or a list of it for an index whose values are the members of arrays.
-fn with_index(alloc: Global, table: &Table, name: &Datum) -> Option<Table> {
-    let index = match list(name) {
-        None => index_of(alloc, text(name)?, false)?,
-        Some(names) => index_of(alloc, text(names.at(0)?)?, true)?,
-    };
-    table.with_index(&index).ok()
+fn with_index(alloc: Global, table: &Table, described: &Datum) -> Option<Table> {
+    let index = described_index(alloc, described)?;
+    let more = table.with_index(&index);
+    drop(index);
+    more.ok()
 }
 
-// The index of the field of a name.
-fn index_of(alloc: Global, name: &str, multi: bool) -> Option<IndexDef> {
+// A name, a list of it for an index whose values are the members of arrays, or a name with those of
+// the fields that the arrays of its values have.
+fn described_index(alloc: Global, described: &Datum) -> Option<IndexDef> {
+    match described {
+        Datum::Text(name) => field_index(alloc, name.as_str(), false),
+        Datum::List(names) => field_index(alloc, text(names.at(0)?)?, true),
+        Datum::Obj(fields) => {
+            let (name, parts) = fields.at(0)?;
+            index_of(alloc, name.as_str(), fields_of(alloc, list(parts)?)?, false)
+        }
+        _ => None,
+    }
+}
+
+fn field_index(alloc: Global, name: &str, multi: bool) -> Option<IndexDef> {
+    index_of(alloc, name, field_of(alloc, name)?, multi)
+}
+
+// The index of a function of variable 0.
+fn index_of(alloc: Global, name: &str, value: Term, multi: bool) -> Option<IndexDef> {
+    let value = Body::new(alloc, value).ok()?;
     let mut params = Params::new(alloc);
     params.push(0).ok()?;
-    let field = Term::Func(params, Body::new(alloc, field_of(alloc, name)?).ok()?);
+    let func = Body::new(alloc, Term::Func(params, value)).ok()?;
     let name = Name::of(alloc, name).ok()?;
-    let func = Body::new(alloc, field).ok()?;
     Some(IndexDef { name, func, multi })
 }
 
 fn field_of(alloc: Global, name: &str) -> Option<Term> {
     let mut args = Terms::new(alloc);
     args.push(Term::Var(0)).ok()?;
-    args.push(Term::Lit(Datum::Text(Name::of(alloc, name).ok()?)))
-        .ok()?;
+    let name = Name::of(alloc, name).ok()?;
+    args.push(Term::Lit(Datum::Text(name))).ok()?;
     Some(Term::Op {
         op: Op::GetField,
         args,
         opts: TermFields::new(alloc),
     })
+}
+
+fn fields_of(alloc: Global, names: &Items) -> Option<Term> {
+    let mut parts = Terms::new(alloc);
+    for name in names.as_slice() {
+        parts.push(field_of(alloc, text(name)?)?).ok()?;
+    }
+    Some(Term::Arr(parts))
 }
