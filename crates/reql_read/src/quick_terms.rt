@@ -83,7 +83,7 @@ fn read_named(
         }
         let known = known(like, fields.len(), key);
         let (name, term) = read_member(alloc, reader, depth, key, known)?;
-        drop(fields.put(name, term).ok()?);
+        fields.set(name, term).ok()?;
     }
     Some(fields)
 }

@@ -1,4 +1,4 @@
-use Rattle.std.proofs.Common.{◌≡◌, ◌-◌, ◌<◌, ◌++◌, ◌∷◌, [], length, map, Some, None, option_map, Ok, if◌then◌else◌, sym, ap, subst, ◌∙◌, append_assoc, arith, rules}
+use Rattle.std.proofs.Common.{◌≡◌, ◌-◌, ◌<◌, ◌++◌, ◌∷◌, [], length, map, Some, None, option_map, Ok, sym, ap, subst, ◌∙◌, append_assoc, arith, rules}
 use Rattle.std.specs.Prelude.{⊤}
 use Rattle.std.proofs.lemmas.List.{append-nil}
 use Rattle.json.specs.Token.{Token}
@@ -133,7 +133,7 @@ read_named-members-preserved t c = λ all r rest.
     let before = c.members.fields in
     let key = was_ok (λ o. read_key c.members.reader ≡ Some (option_map (λ x. x.now) o, s)) (λ e. read_key c.members.reader ≡ None) c.next_key.result c.in_ok-key.field-0 c.next_key.ensures.value (sym c.ok.ensures.value ∙ c.in_ok-key.was) in
     let first : c.members.reader ≡ Token.key k ∷ s = read_key_is c.members.reader _ s key ∙ ap (λ o. key_token (option_map (λ x. x.now) o) ∷ s) c.in-Some.is in
-    let added : c.put.new.self ≡ put c.in_ok-name.name f before = c.put.ensures.members ∙ ap (λ b. if b then put c.in_ok-name.name f before else before) (sym c.in_ok-ok.ensures.variant) in
+    let added : c.set.new.self ≡ put c.in_ok-name.name f before = search rules in
     let member = c.in_ok-name.ensures in
     let later = subst (λ ms. ReadsNamed c.args.depth ts ms all r) (added ∙ ap (λ x. put x f before) member.0) rest in
     c.members.invariant all r (subst (λ us. ReadsNamed c.args.depth us before all r) (sym first) (named_first c.args.depth k f s ts r before all member.1 later))
