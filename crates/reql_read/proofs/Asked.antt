@@ -1,6 +1,6 @@
 -- What a query asks, as the walk takes it apart.
 use Rattle.std.proofs.Common.{◌≡◌, ℕ, Bool, true, false, if◌then◌else◌, nat_eq, Result, Ok, Err, refl, sym, ap, ◌∙◌}
-use Rattle.serde_json.specs.Data.{Data, null, boolean, number, string, Items, no_items, item, Members, no_members}
+use Rattle.serde_json.specs.Data.{Data, null, boolean, number, string, Items, no_items, item, Members}
 use Rattle.serde_json.specs.Data as json
 use Rattle.reql_datum.specs.Answer.{◌>>=◌}
 use Rattle.reql_term.specs.Form.{Form}
