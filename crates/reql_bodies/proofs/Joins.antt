@@ -1,13 +1,10 @@
 -- The texts of answers with results, from those of their parts.
 use Rattle.std.proofs.Common.{◌≡◌, ℕ, List, [], ◌∷◌, ◌++◌, map, Bool, true, false, cond, Option, codes, decimal, refl, sym, ap, ◌∙◌, append_assoc}
-use Rattle.json.specs.Print.{escape_byte, ends_value}
-use Rattle.json.specs.Written.{Written}
+use Rattle.json.specs.Print.{escape_byte}
 use Rattle.serde_json.specs.Data.{Data}
 use Rattle.serde_json.specs.View.{items_of}
 use Rattle.serde_json.specs.Written.{comma_if, compact_text, items_text, members_text}
 use Rattle.reql_json.specs.Showing.{members_of, shown}
-use Rattle.reql_json.specs.Spelling.{text_in, is_after_value, text_with}
-use Rattle.reql_json.proofs.Spelled.{fresh_text}
 use Rattle.reql_answer.specs.Body as answers
 use Rattle.reql_answer.specs.Body.{Answer, Stamped, array_of, numbers, whole}
 use Rattle.reql_datum.specs.View.{plain}
@@ -17,7 +14,7 @@ use Rattle.reql_talk.specs.Meant.{shown_of}
 use Rattle.reql_talk.specs.declared.answered.Shown.{Shown}
 use Rattle.reql_story.specs.Requests as story
 use Rattle.reql_story.specs.Bodies.{is_united, body, told}
-use Rattle.reql_bodies.specs.Parts.{start_text, numbers_text, places_of, stamps_of, items_shown, arms_told, front, front_text}
+use Rattle.reql_bodies.specs.Parts.{start_text, numbers_text, places_of, stamps_of, items_shown, front_text}
 
 -- ---- numbers
 
@@ -29,6 +26,13 @@ numbers_spelled later [] = refl
 numbers_spelled later (n ∷ ns) = ap (λ t. comma_if later ++ (decimal n ++ t)) (numbers_spelled true ns) ∙ one_more (comma_if later) (decimal n) (numbers_text true ns) (93 ∷ [])
 
 -- ---- the members before the results
+
+abbrev arms_told : List ℕ → List ℕ → Answer
+arms_told notes places = cond (is_united notes) ((codes "a", numbers places) ∷ []) []
+
+-- the members before the items
+abbrev front : List ℕ → List Shown → Answer
+front notes xs = (arms_told notes (places_of xs) ++ (codes "f", numbers (stamps_of xs)) ∷ []) ++ (codes "n", numbers notes) ∷ []
 
 abbrev told_by : Bool → List ℕ → List ℕ → List ℕ → Answer
 told_by united places stamps notes = (cond united ((codes "a", numbers places) ∷ []) [] ++ (codes "f", numbers stamps) ∷ []) ++ (codes "n", numbers notes) ∷ []
@@ -57,33 +61,17 @@ batch_text true places stamps notes kind stamp d =
 
 -- ---- the whole
 
--- the text of one more value in a writer that has taken none
-value_after : (start : List ℕ) (d : Data) (old valued : Written) → old.before ≡ start → old.tokens ≡ [] → text_in valued ≡ text_with old d → text_in valued ≡ start ++ compact_text d
-value_after start d old valued begins none text =
-    let first : text_in old ≡ start = fresh_text old none ∙ begins in
-    let place : is_after_value old ≡ false = ap ends_value none in
-    rw (text, place, first) refl
-
-stream_text : (kind : ℕ) (stamp : Option Stamped) (d : Data) → (start_text ++ compact_text d) ++ end_text kind stamp ≡ answers.body ((codes "n", array_of []) ∷ (codes "r", d) ∷ ending kind stamp)
+pub stream_text : (kind : ℕ) (stamp : Option Stamped) (d : Data) → (start_text ++ compact_text d) ++ end_text kind stamp ≡ answers.body ((codes "n", array_of []) ∷ (codes "r", d) ∷ ending kind stamp)
 unfolding escape_byte
 stream_text kind stamp d = ap (λ t. (start_text ++ compact_text d) ++ t) (sym (ending_spelled kind stamp)) ∙ append_assoc start_text (compact_text d) (members_text true (members_of (ending kind stamp)))
 
-pub stream_written : (kind : ℕ) (stamp : Option Stamped) (d : Data) (old valued : Written) → old.before ≡ start_text → old.tokens ≡ [] → text_in valued ≡ text_with old d
-    → text_in valued ++ end_text kind stamp ≡ answers.body ((codes "n", array_of []) ∷ (codes "r", d) ∷ ending kind stamp)
-stream_written kind stamp d old valued begins none text = ap (λ t. t ++ end_text kind stamp) (value_after start_text d old valued begins none text) ∙ stream_text kind stamp d
-
-pub batch_written : (notes : List ℕ) (xs : List Shown) (stamp : Option Stamped) (d : Data) (old valued : Written) → old.before ≡ front_text notes xs → old.tokens ≡ [] → text_in valued ≡ text_with old d
-    → text_in valued ++ end_text 3 stamp ≡ answers.body (front notes xs ++ (codes "r", d) ∷ ending 3 stamp)
-batch_written notes xs stamp d old valued begins none text =
-    ap (λ t. t ++ end_text 3 stamp) (value_after (front_text notes xs) d old valued begins none text) ∙ batch_text (is_united notes) (places_of xs) (stamps_of xs) notes 3 stamp d
-
 -- what a batch tells, whatever the arms are
 module _ (arms : List story.Arm) where
-  pub same_places : (xs : List Shown) → map (λ x. x.at) (map (shown_of arms) xs) ≡ places_of xs
+  same_places : (xs : List Shown) → map (λ x. x.at) (map (shown_of arms) xs) ≡ places_of xs
   same_places [] = refl
   same_places (x ∷ xs) = ap (λ ns. x.at ∷ ns) (same_places xs)
 
-  pub same_stamps : (xs : List Shown) → map (λ x. x.stamp) (map (shown_of arms) xs) ≡ stamps_of xs
+  same_stamps : (xs : List Shown) → map (λ x. x.stamp) (map (shown_of arms) xs) ≡ stamps_of xs
   same_stamps [] = refl
   same_stamps (x ∷ xs) = ap (λ ns. x.stamp ∷ ns) (same_stamps xs)
 
@@ -97,6 +85,8 @@ module _ (arms : List story.Arm) where
       (append_assoc (arms_told notes (places_of xs) ++ (codes "f", numbers (stamps_of xs)) ∷ []) ((codes "n", numbers notes) ∷ []) ((codes "r", array_of (items_shown xs)) ∷ ending 3 s)
       ∙ append_assoc (arms_told notes (places_of xs)) ((codes "f", numbers (stamps_of xs)) ∷ []) ((codes "n", numbers notes) ∷ (codes "r", array_of (items_shown xs)) ∷ ending 3 s))
 
-  pub batch_body : (notes : List ℕ) (xs : List Shown) (s : Option Stamped) → answers.body (front notes xs ++ (codes "r", array_of (items_shown xs)) ∷ ending 3 s) ≡ body (story.Batch notes (map (shown_of arms) xs) s)
+  pub batch_body : (notes : List ℕ) (xs : List Shown) (s : Option Stamped)
+      → (front_text notes xs ++ compact_text (array_of (items_shown xs))) ++ end_text 3 s ≡ body (story.Batch notes (map (shown_of arms) xs) s)
   unfolding body
-  batch_body notes xs s = ap answers.body (told_batch notes xs s)
+  batch_body notes xs s =
+      batch_text (is_united notes) (places_of xs) (stamps_of xs) notes 3 s (array_of (items_shown xs)) ∙ ap answers.body (told_batch notes xs s)

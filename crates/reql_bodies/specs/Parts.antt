@@ -4,7 +4,6 @@ use Rattle.serde_json.specs.Data as json
 use Rattle.serde_json.specs.Written.{comma_if}
 use Rattle.reql_datum.specs.View.{plain}
 use Rattle.reql_json.specs.Showing.{shown}
-use Rattle.reql_answer.specs.Body.{Answer, numbers}
 use Rattle.reql_story.specs.Bodies.{is_united}
 use Rattle.reql_talk.specs.declared.answered.Shown.{Shown}
 
@@ -27,14 +26,7 @@ stamps_of xs = map (λ x. x.stamp) xs
 abbrev pub items_shown : List Shown → List json.Data
 items_shown xs = map (λ x. shown (plain x.item)) xs
 
-abbrev pub arms_told : List ℕ → List ℕ → Answer
-arms_told notes places = cond (is_united notes) ((codes "a", numbers places) ∷ []) []
-
--- the members before the items
-abbrev pub front : List ℕ → List Shown → Answer
-front notes xs = (arms_told notes (places_of xs) ++ (codes "f", numbers (stamps_of xs)) ∷ []) ++ (codes "n", numbers notes) ∷ []
-
--- the text of these members
+-- the text of the members before the items
 abbrev pub arms_text : List ℕ → List ℕ → List ℕ
 arms_text notes places = cond (is_united notes) (codes "\"a\":[" ++ numbers_text false places ++ codes "],") []
 

@@ -1,8 +1,6 @@
 // The answer with a batch of a feed.
-ghost use Rattle.std.specs.Prelude.{◌≡◌, List, ◌++◌, Some, option_map, IfOk, OnOk, map, true, false};
-ghost use Rattle.serde_json.specs.Written.{items_text};
-ghost use Rattle.serde_json.specs.View.{items_of};
-ghost use Rattle.reql_json.specs.Spelling.{text_in, is_after_value, text_with};
+ghost use Rattle.std.specs.Prelude.{◌≡◌, List, ◌++◌, option_map, IfOk, OnOk, map, false};
+ghost use Rattle.serde_json.specs.Written.{compact_text};
 ghost use Rattle.reql_answer.specs.Body.{array_of, stamped_by};
 ghost use Rattle.reql_story.specs.Requests.{Arm, Batch};
 ghost use Rattle.reql_story.specs.Bodies.{body};
@@ -10,11 +8,9 @@ ghost use Rattle.reql_story.specs.Bodies as texts;
 ghost use Rattle.reql_talk.specs.Meant.{shown_of};
 ghost use Rattle.reql_bodies.specs.Parts.{numbers_text, places_of, stamps_of, items_shown, arms_text, front_text};
 
-use crate::results::ended;
-use crate::writing::write_shown;
-use json::Writer;
-use reql_answer::{Stamp, write_number};
+use reql_answer::{Stamp, write_end};
 use reql_datum::Memory;
+use reql_spell::{write_comma, write_document, write_number};
 use reql_talk::Shown;
 use std::alloc::{AllocError, Global};
 
@@ -99,27 +95,19 @@ fn begun(alloc: Global, notes: &[u8], items: &[Shown]) -> Result<Vec<u8>, AllocE
     Ok(out)
 }
 
-// Items of a list, and its closing bracket.
-fn write_each(alloc: Global, out: &mut Writer, items: &[Shown]) -> Result<(), AllocError>
-    ensures text { OnOk result (text_in out.new ≡ text_in out.old
-        ++ items_text (is_after_value out.old) (items_of (items_shown items.now))) }
-    ensures ended { OnOk result (is_after_value out.new ≡ true) }
+// Items as a list.
+fn write_list(out: &mut Vec<u8>, items: &[Shown]) -> Result<(), AllocError>
+    ensures { OnOk result (out.new.items ≡ out.old.items
+        ++ compact_text (array_of (items_shown items.now))) }
 {
+    out.push(b'[')?;
     let mut place = 0;
     while let Some(item) = items.get(place) {
-        write_shown(alloc, out, &item.item)?;
+        write_comma(out, place > 0)?;
+        write_document(out, &item.item)?;
         place += 1;
     }
-    Ok(out.end_array()?)
-}
-
-// Items as a list.
-fn write_list(alloc: Global, out: &mut Writer, items: &[Shown]) -> Result<(), AllocError>
-    ensures text { OnOk result (text_in out.new ≡ text_with out.old (array_of (items_shown items.now))) }
-    ensures ended { OnOk result (is_after_value out.new ≡ true) }
-{
-    out.begin_array()?;
-    Ok(write_each(alloc, out, items)?)
+    Ok(out.push(b']')?)
 }
 
 /// The answer with items of a feed that has these notes, whatever its arms are: opening and state items, skip items and
@@ -133,7 +121,8 @@ pub fn batch(
     ensures { (arms : List Arm) → IfOk result (λ b. b.items ≡ body (Batch notes.now
         (map (shown_of arms) items.now) (option_map stamped_by stamp.entry))) }
 {
-    let mut out = Writer::new(begun(alloc, notes, items)?);
-    write_list(alloc, &mut out, items)?;
-    Ok(ended(out, 3, stamp)?)
+    let mut out = begun(alloc, notes, items)?;
+    write_list(&mut out, items)?;
+    write_end(&mut out, 3, stamp)?;
+    Ok(out)
 }

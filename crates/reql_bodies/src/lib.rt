@@ -6,7 +6,6 @@ mod fitting;
 mod fixed;
 mod refusals;
 mod results;
-mod writing;
 
 pub use batches::batch;
 pub use fitting::{cut_to, fitted, is_long};

@@ -1,22 +1,17 @@
 // Answers with results.
-ghost use Rattle.std.specs.Prelude.{◌≡◌, [], ◌++◌, None, Some, option_map, IfOk, OnOk, map, true};
-ghost use Rattle.serde_json.specs.Written.{items_text};
-ghost use Rattle.serde_json.specs.View.{items_of};
+ghost use Rattle.std.specs.Prelude.{◌≡◌, [], ◌++◌, None, option_map, IfOk, OnOk, map};
+ghost use Rattle.serde_json.specs.Written.{compact_text};
 ghost use Rattle.reql_datum.specs.View.{plain};
 ghost use Rattle.reql_json.specs.Showing.{shown};
-ghost use Rattle.reql_json.specs.Spelling.{text_in, is_after_value, text_with};
 ghost use Rattle.reql_answer.specs.Body.{array_of, results, stamped_by};
 ghost use Rattle.reql_answer.specs.Body as answers;
-ghost use Rattle.reql_answer.specs.Ending.{end_text};
 ghost use Rattle.reql_story.specs.Requests.{Atom, Last, Part};
 ghost use Rattle.reql_story.specs.Bodies.{body};
 ghost use Rattle.reql_bodies.specs.Parts.{start_text};
 
-use crate::writing::write_shown;
-use json::Writer;
 use reql_answer::{Stamp, write_end};
 use reql_datum::{Datum, Memory};
-use reql_json::written;
+use reql_spell::{write_comma, write_document};
 use std::alloc::{AllocError, Global};
 use std::slice;
 
@@ -32,38 +27,19 @@ fn begun(alloc: Global) -> Result<Vec<u8>, AllocError>
     Ok(bytes)
 }
 
-/// The bytes of an answer whose results were written, and its end.
-pub(crate) fn ended(out: Writer, kind: u8, stamp: Option<Stamp<'_>>) -> Result<Vec<u8>, AllocError>
-    ensures { IfOk result (λ b. b.items
-        ≡ text_in out ++ end_text kind (option_map stamped_by stamp.entry)) }
+// Documents as a list.
+fn write_list(out: &mut Vec<u8>, documents: &[Datum]) -> Result<(), AllocError>
+    ensures { OnOk result (out.new.items ≡ out.old.items
+        ++ compact_text (array_of (map shown (map plain documents.now)))) }
 {
-    let mut bytes = written(out);
-    write_end(&mut bytes, kind, stamp)?;
-    Ok(bytes)
-}
-
-// Documents of a list, and its closing bracket.
-fn write_each(alloc: Global, out: &mut Writer, documents: &[Datum]) -> Result<(), AllocError>
-    ensures text { OnOk result (text_in out.new ≡ text_in out.old
-        ++ items_text (is_after_value out.old) (items_of (map shown (map plain documents.now)))) }
-    ensures ended { OnOk result (is_after_value out.new ≡ true) }
-{
+    out.push(b'[')?;
     let mut place = 0;
     while let Some(document) = documents.get(place) {
-        write_shown(alloc, out, document)?;
+        write_comma(out, place > 0)?;
+        write_document(out, document)?;
         place += 1;
     }
-    Ok(out.end_array()?)
-}
-
-// Documents as a list.
-fn write_list(alloc: Global, out: &mut Writer, documents: &[Datum]) -> Result<(), AllocError>
-    ensures text { OnOk result (text_in out.new ≡ text_with out.old
-        (array_of (map shown (map plain documents.now)))) }
-    ensures ended { OnOk result (is_after_value out.new ≡ true) }
-{
-    out.begin_array()?;
-    Ok(write_each(alloc, out, documents)?)
+    Ok(out.push(b']')?)
 }
 
 fn stream(
@@ -75,9 +51,10 @@ fn stream(
     ensures { IfOk result (λ b. b.items ≡ answers.body (results kind [] None
         (map shown (map plain documents.now)) (option_map stamped_by stamp.entry))) }
 {
-    let mut out = Writer::new(begun(alloc)?);
-    write_list(alloc, &mut out, documents)?;
-    Ok(ended(out, kind, stamp)?)
+    let mut out = begun(alloc)?;
+    write_list(&mut out, documents)?;
+    write_end(&mut out, kind, stamp)?;
+    Ok(out)
 }
 
 /// The answer of one document.

@@ -92,8 +92,8 @@ fn write_members(out: &mut Vec<u8>, fields: &Fields) -> Result<(), AllocError>
     Ok(out.push(b'}')?)
 }
 
-// A comma, where a value stands before.
-fn write_comma(out: &mut Vec<u8>, later: bool) -> Result<(), AllocError>
+/// Appends a comma, where a value stands before.
+pub fn write_comma(out: &mut Vec<u8>, later: bool) -> Result<(), AllocError>
     ensures { OnOk result (out.new.items ≡ out.old.items ++ comma_if later) }
 {
     if !later {
