@@ -8,5 +8,5 @@ mod spell;
 mod texts;
 
 pub use numbers::{append_from, append_item, put_byte, write_number};
-pub use spell::{document_text, write_comma, write_document};
-pub use texts::write_text;
+pub use spell::{document_text, write_document};
+pub use texts::{write_comma, write_text};

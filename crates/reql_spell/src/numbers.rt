@@ -53,10 +53,20 @@ pub fn write_number(out: &mut Vec<u8>, later: bool, n: u64) -> Result<(), AllocE
     Ok(append_item(out, later, &mut text, start)?)
 }
 
-// A number that may be below 0.
-pub(crate) fn write_integer(out: &mut Vec<u8>, n: i64) -> Result<(), AllocError>
+fn write_wide(out: &mut Vec<u8>, n: i64) -> Result<(), AllocError>
     ensures { OnOk result (out.new.items ≡ out.old.items ++ signed_decimal n) }
 {
     let mut buffer = Buffer::new();
     Ok(out.extend_from_slice(buffer.format(n).as_bytes())?)
+}
+
+// A number that may be below 0.
+#[tactic(auto, using(std::proofs::lemmas::Fmt::decimal_digit))]
+pub(crate) fn write_integer(out: &mut Vec<u8>, n: i64) -> Result<(), AllocError>
+    ensures { OnOk result (out.new.items ≡ out.old.items ++ signed_decimal n) }
+{
+    if n < 0 || n > 9 {
+        return Ok(write_wide(out, n)?);
+    }
+    Ok(out.push(b'0' + n as u8)?)
 }

@@ -1,8 +1,7 @@
 // A document appended as its JSON value, with no value made for it.
-ghost use Rattle.std.specs.Prelude.{◌≡◌, ◌∷◌, [], ◌++◌, option_map, OnOk, false};
-ghost use Rattle.json.specs.Print.{quoted};
+ghost use Rattle.std.specs.Prelude.{◌≡◌, ◌++◌, option_map, OnOk, false};
 ghost use Rattle.serde_json.specs.Data.{boolean};
-ghost use Rattle.serde_json.specs.Written.{comma_if, compact_text, items_text, members_text};
+ghost use Rattle.serde_json.specs.Written.{compact_text, items_text, members_text};
 ghost use Rattle.base64.specs.Engines.{standard};
 ghost use Rattle.base64.specs.GeneralPurpose.{encode_of};
 ghost use Rattle.reql_datum.specs.Plain.{items_of, pairs_of};
@@ -11,7 +10,7 @@ ghost use Rattle.reql_json.specs.Literal.{binary_shown, time_shown};
 ghost use Rattle.reql_json.specs.Showing.{Shows, value, shown, items_shown, members_shown};
 
 use crate::numbers::write_integer;
-use crate::texts::write_text;
+use crate::texts::{write_comma, write_name, write_text};
 use base64::encoded_len;
 use base64::engine::general_purpose::STANDARD;
 use reql_datum::{Datum, Fields, Items, Moment};
@@ -90,26 +89,6 @@ fn write_members(out: &mut Vec<u8>, fields: &Fields) -> Result<(), AllocError>
         place += 1;
     }
     Ok(out.push(b'}')?)
-}
-
-/// Appends a comma, where a value stands before.
-pub fn write_comma(out: &mut Vec<u8>, later: bool) -> Result<(), AllocError>
-    ensures { OnOk result (out.new.items ≡ out.old.items ++ comma_if later) }
-{
-    if !later {
-        return Ok(());
-    }
-    Ok(out.push(b',')?)
-}
-
-// The name of a member with its colon, and a comma before it where another stands there.
-fn write_name(out: &mut Vec<u8>, later: bool, name: &str) -> Result<(), AllocError>
-    ensures { OnOk result (out.new.items
-        ≡ out.old.items ++ (comma_if later ++ (quoted name.now ++ 58 ∷ []))) }
-{
-    write_comma(out, later)?;
-    write_text(out, name)?;
-    Ok(out.push(b':')?)
 }
 
 fn write_bool(out: &mut Vec<u8>, b: bool) -> Result<(), AllocError>
