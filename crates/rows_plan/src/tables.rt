@@ -14,15 +14,15 @@ pub(crate) fn count_in(fields: &Fields, name: &str) -> Option<u64> {
     }
 }
 
-/// A look at a table, or at one that was dropped.
+/// A look at a table, or at one that was dropped where it is null.
 pub(crate) fn look_of(alloc: Global, described: &Datum) -> Option<Look<Table>> {
-    match object(described) {
-        Some(fields) => table_seen(alloc, fields),
-        None => Some(Look {
+    match described {
+        Datum::Null => Some(Look {
             place: 0,
             stamp: 0,
             view: None,
         }),
+        _ => table_seen(alloc, object(described)?),
     }
 }
 
