@@ -1,5 +1,5 @@
 // The calls on an object.
-ghost use Rattle.std.specs.Prelude.{◌≡◌, [], ◌∷◌, length, map, is_ok, IfOk, IfErr, OnOk, OnSome, MatchOption, drop, ◌+◌, ◌^◌, ◌<◌, option_map, slice_get, nat_eq, if◌then◌else◌};
+ghost use Rattle.std.specs.Prelude.{◌≡◌, [], ◌∷◌, length, map, is_ok, IfOk, IfErr, OnSome, MatchOption, drop, ◌+◌, ◌^◌, ◌<◌, option_map, slice_get, nat_eq, if◌then◌else◌};
 ghost use Rattle.reql_datum.specs.Kinds.{is_storable};
 ghost use Rattle.std.specs.Map.{keys_of};
 ghost use Rattle.reql_memory.specs.Sorted.{IsGapBy};
@@ -101,7 +101,8 @@ impl Fields {
     /// Puts a value at a name, and lets go of the one that it replaced. A name above all others, as
     /// most are put, takes less than by `put`.
     pub fn set(&mut self, name: Name, value: Datum) -> Result<(), Memory>
-        ensures { OnOk result (self.new ≡ put name (plain value) self.old) }
+        ensures { self.new ≡ (if is_ok result then put name (plain value) self.old
+            else self.old) }
     {
         if sorted_map::is_above(shown(&self.held), &name) {
             return self.put_last(name, value);

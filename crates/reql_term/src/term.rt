@@ -1,5 +1,5 @@
 // A term, and the lists and maps of terms in it.
-ghost use Rattle.std.specs.Prelude.{◌≡◌, [], ◌∷◌, ◌++◌, length, map, is_ok, IfOk, IfErr, OnOk, OnSome, MatchOption, drop, ◌+◌, ◌^◌, ◌<◌, option_map, slice_get, set, Some, nat_eq, if◌then◌else◌};
+ghost use Rattle.std.specs.Prelude.{◌≡◌, [], ◌∷◌, ◌++◌, length, map, is_ok, IfOk, IfErr, OnSome, MatchOption, drop, ◌+◌, ◌^◌, ◌<◌, option_map, slice_get, set, Some, nat_eq, if◌then◌else◌};
 ghost use Rattle.reql_datum.specs.Members.{find, put, without, AreRising};
 ghost use Rattle.reql_term.specs.View.{form_of, field_of};
 
@@ -364,7 +364,8 @@ impl TermFields {
     /// Puts a term at a name, and lets go of the one that it replaced. A name above all others, as
     /// most are put, takes less than by `put`.
     pub fn set(&mut self, name: Name, value: Term) -> Result<(), Memory>
-        ensures { OnOk result (self.new ≡ put name (form_of value) self.old) }
+        ensures { self.new ≡ (if is_ok result then put name (form_of value) self.old
+            else self.old) }
     {
         if sorted_map::is_above(shown(&self.held), &name) {
             return sorted_map::put_last(self.alloc, &mut self.held, ROOM, name, value);
