@@ -37,6 +37,13 @@ impl Rule for OfValues<'_> {
             _ => Ok(None),
         }
     }
+
+    fn passes(&self, term: &Term) -> bool {
+        match term {
+            Term::Op { .. } => false,
+            _ => true,
+        }
+    }
 }
 
 impl Rule for OfRequests<'_> {
@@ -46,6 +53,13 @@ impl Rule for OfRequests<'_> {
         match term {
             Term::Op { op, args, opts } => by_op(alloc, self.names, self.db, *op, args, opts),
             _ => Ok(None),
+        }
+    }
+
+    fn passes(&self, term: &Term) -> bool {
+        match term {
+            Term::Op { .. } => false,
+            _ => true,
         }
     }
 }

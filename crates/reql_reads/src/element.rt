@@ -36,6 +36,13 @@ impl Rule for OfVariable<'_> {
             _ => Ok(None),
         }
     }
+
+    fn passes(&self, term: &Term) -> bool {
+        match term {
+            Term::Var(_) | Term::Func(_, _) => false,
+            _ => true,
+        }
+    }
 }
 
 impl Rule for OfParameter<'_> {
@@ -46,6 +53,13 @@ impl Rule for OfParameter<'_> {
             Term::Row => Ok(Some(element_term(alloc, self.element)?)),
             Term::Func(ids, _) => Ok(same_if(is_one(ids.as_slice()), term)?),
             _ => Ok(None),
+        }
+    }
+
+    fn passes(&self, term: &Term) -> bool {
+        match term {
+            Term::Row | Term::Func(_, _) => false,
+            _ => true,
         }
     }
 }

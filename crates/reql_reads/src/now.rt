@@ -32,6 +32,13 @@ impl Rule for AtMoment<'_> {
             _ => Ok(None),
         }
     }
+
+    fn passes(&self, term: &Term) -> bool {
+        match term {
+            Term::Op { .. } => false,
+            _ => true,
+        }
+    }
 }
 
 /// The term with the moment, in seconds since 1970, in the place of each NOW.

@@ -1,5 +1,5 @@
 // The one walk that puts terms in the place of terms.
-ghost use Rattle.std.specs.Prelude.{◌≡◌};
+ghost use Rattle.std.specs.Prelude.{◌≡◌, Ok, IsTrue};
 ghost use Rattle.std.specs.Option.{unwrap_or};
 ghost use Rattle.reql_datum.specs.Outcome.{Gives};
 ghost use Rattle.reql_term.specs.Form.{function, forms_of, named_of};
@@ -24,14 +24,26 @@ pub fn rewrite<R: Rule>(alloc: Global, rule: &R, term: &Term) -> Result<Term, Fa
     }
 }
 
+// Whether a term without parts stays as it is, which a look tells of most.
+fn stays<R: Rule>(rule: &R, term: &Term) -> bool
+    ensures { IsTrue result → rewritten (R.rule rule.now) (form_of term.now) ≡ Ok (form_of term.now) }
+{
+    match term {
+        Term::Lit(_) | Term::Var(_) | Term::Row | Term::Slot(_) => rule.passes(term),
+        _ => false,
+    }
+}
+
 // The term by the rule, None where it is the same.
 #[cycle(rewrite)]
 fn changed<R: Rule>(alloc: Global, rule: &R, term: &Term) -> Result<Option<Term>, Fault>
     ensures { Gives (form_or (form_of term.now)) result
         (rewritten (R.rule rule.now) (form_of term.now)) }
 {
-    if let Some(other) = rule.instead(alloc, term)? {
-        return Ok(Some(other));
+    if !rule.passes(term) {
+        if let Some(other) = rule.instead(alloc, term)? {
+            return Ok(Some(other));
+        }
     }
     match term {
         Term::Lit(_) | Term::Var(_) | Term::Row | Term::Slot(_) => Ok(None),
@@ -64,8 +76,10 @@ fn changed_all<R: Rule>(alloc: Global, rule: &R, terms: &Terms) -> Result<Option
     let mut done = None;
     let mut place = 0;
     while let Some(term) = terms.at(place) {
-        if let Some(other) = changed(alloc, rule, term)? {
-            done = Some(with_term(done, terms, place, other)?);
+        if !stays(rule, term) {
+            if let Some(other) = changed(alloc, rule, term)? {
+                done = Some(with_term(done, terms, place, other)?);
+            }
         }
         place += 1;
     }
@@ -85,8 +99,10 @@ fn changed_named<R: Rule>(
     let mut done = None;
     let mut place = 0;
     while let Some((name, term)) = fields.at(place) {
-        if let Some(other) = changed(alloc, rule, term)? {
-            done = Some(with_field(done, fields, name, other)?);
+        if !stays(rule, term) {
+            if let Some(other) = changed(alloc, rule, term)? {
+                done = Some(with_field(done, fields, name, other)?);
+            }
         }
         place += 1;
     }
