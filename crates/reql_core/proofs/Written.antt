@@ -1,5 +1,6 @@
 -- Writes.
 use Rattle.std.proofs.Common.{◌≡◌, ◌<◌, ◌^◌, ◌+◌, ◌-◌, ℕ, suc, List, [], ◌∷◌, map, length, Bool, true, false, cond, nat_lt, refl, sym, ap, subst, ◌∙◌, arith}
+use Rattle.std.proofs.lemmas.List.{nil_from_length}
 use Rattle.reql_datum.specs.Order.{order}
 use Rattle.reql_datum.specs.Plain.{Plain}
 use Rattle.reql_memory.specs.Sorted.{AreRisingBy, find_by}
@@ -12,6 +13,7 @@ use Rattle.reql_table_machine.specs.declared.command.Said.TheVariants as said
 use Rattle.reql_write_law.specs.Laws.{AllCome}
 use Rattle.reql_write_law.specs.Treated.{Changed, changed}
 use Rattle.reql_write_law.specs.Write.{write}
+use Rattle.reql_write_law.specs.declared.command.Change.{Change}
 use Rattle.reql_write_law.specs.declared.command.Summary.{Summary}
 use Rattle.reql_write_law.specs.declared.command.WriteCmd.{WriteCmd}
 use Rattle.reql_law.specs.Replies.{said_of}
@@ -22,7 +24,7 @@ use Rattle.reql_feeds.specs.Ahead.{Pending, all_ahead}
 use Rattle.reql_feeds.specs.Laws.{ChangesLead}
 use Rattle.reql_feeds.specs.Record.{records, kept_in, AllFit}
 use Rattle.reql_feeds.specs.Told.{noticed}
-use Rattle.reql_feeds.specs.Turn.{undone}
+use Rattle.reql_feeds.specs.Turn.{told, undone}
 use Rattle.reql_core.specs.Live.{Live, Lives, table_of, Does}
 use Rattle.reql_opening.specs.Opens.{Follows}
 use Rattle.reql_core.specs.Writing.{AreAt, with_feeds, landed, landed_one}
@@ -30,6 +32,7 @@ use Rattle.reql_core.proofs.Batches.{numbers, below_by}
 use Rattle.reql_core.proofs.Changes.{told_so as told_as, fit_after, reads_on, one_change}
 use Rattle.reql_core.proofs.Doing.{done, idle, refused, past_by}
 use Rattle.reql_core.proofs.Commands.{next}
+use Rattle.reql_core.proofs.Untold.{leads_untold}
 
 -- ---- what a draft is committed to keeps the numbers of the feeds
 module _ {K : Type 0} where
@@ -111,6 +114,28 @@ module _ {F : Type 0} (held : F → Held) (sight : Standing → List Document) (
       (λ i. record (with_feeds u (next l.moment.stamp i) (records held fs)) { shut = l.shut; place = next l.moment.place i })
       ∙ (ap (λ (t : DocumentTable). record t { shut = l.shut; place = suc l.moment.place }) e
       ∙ ap (λ (t : DocumentTable). record t { place = suc t.place }) (sym (carried l.most l.moment.place l.shut (with_feeds l.moment.table l.moment.stamp (records held l.feeds)) (x ∷ []))))
+
+-- one change, of which no feed has to be told
+none_ahead : {F : Type 0} (held : F → Held) (fs : List (Feed F Plain)) → all_ahead held fs [] ≡ fs
+none_ahead held [] = refl
+none_ahead held (f ∷ fs) = refl
+
+module _ {F : Type 0} (held : F → Held) (l : Live F) (u : Standing) (none : length l.feeds ≡ 0) where
+  pub lives_unheard : (fits : F → List Document → Type 0) (reads : F → Standing → Type 0) → Lives fits reads l → l.moment.place + 1 < 2 ^ 64 → l.moment.stamp + 1 < 2 ^ 64 → Lives fits reads (landed_one l u l.feeds)
+  lives_unheard fits reads v room less = record {
+    fit = subst (λ (x : List (Feed F Plain)). AllFit fits (documents_of u) (kept_in x)) (sym (nil_from_length l.feeds none)) (λ k d small. absurd (omega (arith, small)));
+    read = subst (λ (x : List (Feed F Plain)). AllFit reads u (kept_in x)) (sym (nil_from_length l.feeds none)) (λ k d small. absurd (omega (arith, small)));
+    below = λ k d small. let b = below_by (suc l.moment.place) l.feeds l.feeds refl v.below k d small in omega (arith, b);
+    place = room;
+    stamp = less;
+  }
+
+  pub leaves_unheard : (change : Change) → documents_of u ≡ changed (documents_of l.moment.table) (told change) → u.1 ≡ l.moment.table.1 → l.shut ≡ false
+      → table_of held (landed_one l u l.feeds) ≡ one_more (feeding l.most) (after_changes (feeding l.most) (table_of held l) (told change ∷ []))
+  leaves_unheard change docs same alive =
+      let unheard = none_ahead held l.feeds in
+      subst (λ (fs : List (Feed F Plain)). table_of held (landed_one l u fs) ≡ one_more (feeding l.most) (after_changes (feeding l.most) (table_of held l) (told change ∷ []))) unheard
+      (leaves_it held l u (l.moment.stamp + 1) [] (told change ∷ []) (leads_untold held l.feeds [] none unheard l.moment.table u l.moment.stamp (change ∷ []) docs same) alive)
 
 stamps : (most : ℕ) (t : DocumentTable) (xs : List Changed) → (after_changes (feeding most) t xs).stamp ≡ t.stamp + length xs
 stamps most t [] = omega arith

@@ -1,5 +1,5 @@
 // Changes of a write are made on a share of the table, and a draft of the feeds is told of each.
-ghost use Rattle.std.specs.Prelude.{◌≡◌, ℕ, [], ◌∷◌, ◌+◌, ◌<◌, ◌^◌, map, length, suc, IfOk};
+ghost use Rattle.std.specs.Prelude.{◌≡◌, ℕ, ◌+◌, ◌<◌, ◌^◌, map, length, suc, IfOk, IfSome};
 ghost use Rattle.reql_datum.specs.Order.{order};
 ghost use Rattle.reql_memory.specs.Sorted.{AreRisingBy, find_by};
 ghost use Rattle.reql_table.specs.Seen.{documents_of};
@@ -19,32 +19,42 @@ use reql_ptree::Tree;
 use reql_table::Table;
 use reql_write_law::Change;
 use std::alloc::Global;
-use std::slice;
 
 /// The table after one change.
-fn changed(table: &Table, change: &Change) -> Result<Table, Memory>
+pub(crate) fn changed(table: &Table, change: &Change) -> Result<Table, Memory>
     ensures rising { AreRisingBy order (documents_of table.now) }
     ensures documents { IfOk result (λ t. documents_of t
         ≡ changed_of (documents_of table.now) (told change.now)) }
     ensures same { IfOk result (λ t. t.1 ≡ table.now.1) }
 {
-    let _rising = table.has_tree(0);
+    let _rising = table.tree();
     let mut after = table.share()?;
-    let prepared = table.prepare(slice::from_ref(change))?;
-    after.install(prepared);
+    after.apply(change)?;
     Ok(after)
 }
 
-/// The same of a change that leaves these documents.
-pub(crate) fn changed_to(table: &Table, change: &Change, documents: Tree) -> Result<Table, Memory>
-    requires come { AllCome (documents_of table.now) (told change.now ∷ []) }
-    requires documents { documents ≡ changed_of (documents_of table.now) (told change.now) }
-    ensures rising { AreRisingBy order (documents_of table.now) }
+// The table after changes; `documents` are those after them, where the plan made them.
+fn changed_by_all(
+    table: &Table,
+    changes: &[Change],
+    documents: Option<Tree>,
+) -> Result<Table, Memory>
+    requires come { AllCome (documents_of table.now) (map told changes.now) }
+    requires documents { IfSome documents (λ after. after
+        ≡ changed_by (documents_of table.now) (map told changes.now)) }
     ensures documents { IfOk result (λ t. documents_of t
-        ≡ changed_of (documents_of table.now) (told change.now)) }
+        ≡ changed_by (documents_of table.now) (map told changes.now)) }
     ensures same { IfOk result (λ t. t.1 ≡ table.now.1) }
 {
-    table.with_changes(slice::from_ref(change), documents)
+    match documents {
+        Some(documents) => table.with_changes(changes, documents),
+        None => {
+            let mut after = table.share()?;
+            let prepared = table.prepare(changes)?;
+            after.install(prepared);
+            Ok(after)
+        }
+    }
 }
 
 // Makes a change on a table, and tells it to a draft of the feeds.
@@ -110,24 +120,25 @@ pub(crate) fn tell_all<F: Opening>(
     Ok((now, draft))
 }
 
-/// The same where no feed is open, of changes that leave these documents.
+/// The same where no feed is open; `documents` are those after the changes, where the plan made them.
 pub(crate) fn tell_none<F: Opening>(
     alloc: Global,
     feeds: &Feeds<F>,
     table: &Table,
     changes: &[Change],
-    documents: Tree,
+    documents: Option<Tree>,
 ) -> Result<(Table, Draft<F>), Memory>
     requires none { length feeds.now ≡ 0 }
     requires come { AllCome (documents_of table.now) (map told changes.now) }
-    requires documents { documents ≡ changed_by (documents_of table.now) (map told changes.now) }
+    requires documents { IfSome documents (λ after. after
+        ≡ changed_by (documents_of table.now) (map told changes.now)) }
     ensures at { IfOk result (λ r. AreAt F.held F.fits F.reads feeds.now r.0 r.1) }
     ensures leads { (stamp : ℕ) → IfOk result (λ r. with_feeds r.0 (stamp + length changes.now)
         (records F.held (all_ahead F.held feeds.now r.1))
         ≡ after_changes (feeding 0) (with_feeds table.now stamp (records F.held feeds.now))
         (map told changes.now)) }
 {
-    let after = table.with_changes(changes, documents)?;
+    let after = changed_by_all(table, changes, documents)?;
     let draft = feeds.draft(alloc)?;
     Ok((after, draft))
 }

@@ -1,6 +1,6 @@
-// A write: its changes are made on a share of the table. A draft of the feeds is told of each before any of it takes effect;
-// of a single change the feeds themselves are told.
-ghost use Rattle.std.specs.Prelude.{◌≡◌, ◌+◌, ◌<◌, ◌^◌, [], ◌∷◌, map, length, false, IfOk, OnOk, OnErr};
+// A write. A single change is made on the table itself where no feed is open, and else on a share, of which the feeds are told
+// as they are. Of other changes a draft of the feeds is told before any of them takes effect.
+ghost use Rattle.std.specs.Prelude.{◌≡◌, ◌+◌, ◌<◌, ◌^◌, [], ◌∷◌, map, length, false, IfOk, IfSome, OnOk, OnErr};
 ghost use Rattle.reql_table.specs.Seen.{documents_of, indexes_of};
 ghost use Rattle.reql_table_machine.specs.Fed.{changes_at};
 ghost use Rattle.reql_table_machine.specs.Feeds.{after_changes, one_more};
@@ -17,7 +17,7 @@ ghost use Rattle.reql_core.specs.Live.{table_of, Does};
 ghost use Rattle.reql_core.specs.Writing.{AreAt, with_feeds, landed};
 
 use crate::live::LiveTable;
-use crate::telling::{changed_to, tell_all, tell_none};
+use crate::telling::{changed, tell_all, tell_none};
 use reql_feeds::{Draft, feeds_laws};
 use reql_law::{Kept, Said, WriteCmd};
 use reql_memory::Memory;
@@ -65,11 +65,16 @@ fn kept_list(alloc: Global, changes: &[Change]) -> Result<Vec<Kept>, Memory>
 }
 
 impl<F: Opening> LiveTable<F> {
-    // The table and the feeds as they will be after changes, which leave these documents.
-    fn ahead(&self, changes: &[Change], documents: Tree) -> Result<(Table, Draft<F>), Memory>
+    // The table and the feeds as they will be after changes; `documents` are those after them, where the
+    // plan made them.
+    fn ahead(
+        &self,
+        changes: &[Change],
+        documents: Option<Tree>,
+    ) -> Result<(Table, Draft<F>), Memory>
         requires come { AllCome (documents_of self.now.moment.table) (map told changes.now) }
-        requires documents { documents
-            ≡ changed_by (documents_of self.now.moment.table) (map told changes.now) }
+        requires documents { IfSome documents (λ after. after
+            ≡ changed_by (documents_of self.now.moment.table) (map told changes.now)) }
         requires stamp { self.now.moment.stamp + length changes.now < 2 ^ 64 }
         ensures at { IfOk result (λ r. AreAt F.held F.fits F.reads self.now.feeds r.0 r.1) }
         ensures leads { IfOk result (λ r. with_feeds r.0 (self.now.moment.stamp + length changes.now)
@@ -109,14 +114,31 @@ impl<F: Opening> LiveTable<F> {
         Ok(())
     }
 
+    // Lets one change take effect where no feed is open: the table itself is changed.
+    fn land_unheard(&mut self, change: &Change) -> Result<(), Memory>
+        requires none { length self.old.feeds ≡ 0 }
+        requires room { self.old.moment.place + 1 < 2 ^ 64 }
+        requires stamp { self.old.moment.stamp + 1 < 2 ^ 64 }
+        requires alive { self.old.shut ≡ false }
+        ensures leaves { OnOk result (table_of F.held self.new ≡ one_more (feeding self.old.most)
+            (after_changes (feeding self.old.most) (table_of F.held self.old) (told change.now ∷ []))) }
+        ensures place { OnOk result (self.new.moment.place < 2 ^ 64) }
+        ensures stamp { OnOk result (self.new.moment.stamp < 2 ^ 64) }
+        ensures most { self.new.most ≡ self.old.most }
+        ensures same { OnErr result (self.new ≡ self.old) }
+    {
+        self.moment.table.apply(change)?;
+        self.moment.stamp += 1;
+        self.moment.place += 1;
+        Ok(())
+    }
+
     // Lets one change take effect: each feed is told of it as it is.
-    fn land_one(&mut self, change: &Change, documents: Tree) -> Result<(), Memory>
+    fn land_heard(&mut self, change: &Change) -> Result<(), Memory>
         requires room { self.old.moment.place + 1 < 2 ^ 64 }
         requires stamp { self.old.moment.stamp + 1 < 2 ^ 64 }
         requires alive { self.old.shut ≡ false }
         requires come { AllCome (documents_of self.old.moment.table) (told change.now ∷ []) }
-        requires documents { documents
-            ≡ changed_by (documents_of self.old.moment.table) (told change.now ∷ []) }
         ensures leaves { OnOk result (table_of F.held self.new ≡ one_more (feeding self.old.most)
             (after_changes (feeding self.old.most) (table_of F.held self.old) (told change.now ∷ []))) }
         ensures place { OnOk result (self.new.moment.place < 2 ^ 64) }
@@ -125,7 +147,7 @@ impl<F: Opening> LiveTable<F> {
         ensures same { OnErr result (self.new ≡ self.old) }
     {
         feeds_laws();
-        let after = changed_to(&self.moment.table, change, documents)?;
+        let after = changed(&self.moment.table, change)?;
         self.feeds
             .tell_one(self.alloc, change, &after, self.moment.stamp)?;
         self.moment.table = after;
@@ -134,14 +156,15 @@ impl<F: Opening> LiveTable<F> {
         Ok(())
     }
 
-    // Lets changes take effect, which leave these documents: a draft of the feeds is told of each first.
-    fn land_many(&mut self, changes: &[Change], documents: Tree) -> Result<(), Memory>
+    // Lets changes take effect: a draft of the feeds is told of each first. `documents` are those after
+    // them, where the plan made them.
+    fn land_many(&mut self, changes: &[Change], documents: Option<Tree>) -> Result<(), Memory>
         requires room { self.old.moment.place + 1 < 2 ^ 64 }
         requires stamp { self.old.moment.stamp + length changes.now < 2 ^ 64 }
         requires alive { self.old.shut ≡ false }
         requires come { AllCome (documents_of self.old.moment.table) (map told changes.now) }
-        requires documents { documents
-            ≡ changed_by (documents_of self.old.moment.table) (map told changes.now) }
+        requires documents { IfSome documents (λ after. after
+            ≡ changed_by (documents_of self.old.moment.table) (map told changes.now)) }
         ensures leaves { OnOk result (table_of F.held self.new ≡ one_more (feeding self.old.most)
             (after_changes (feeding self.old.most) (table_of F.held self.old) (map told changes.now))) }
         ensures place { OnOk result (self.new.moment.place < 2 ^ 64) }
@@ -155,14 +178,15 @@ impl<F: Opening> LiveTable<F> {
         Ok(())
     }
 
-    // Lets changes take effect, which leave these documents.
-    fn land(&mut self, changes: &[Change], documents: Tree) -> Result<(), Memory>
+    // Lets changes take effect; `documents` are those after them, where the plan made them. For a single
+    // change they are let go first, since a share that is still there would have the way copied.
+    fn land(&mut self, changes: &[Change], documents: Option<Tree>) -> Result<(), Memory>
         requires room { self.old.moment.place + 1 < 2 ^ 64 }
         requires stamp { self.old.moment.stamp + length changes.now < 2 ^ 64 }
         requires alive { self.old.shut ≡ false }
         requires come { AllCome (documents_of self.old.moment.table) (map told changes.now) }
-        requires documents { documents
-            ≡ changed_by (documents_of self.old.moment.table) (map told changes.now) }
+        requires documents { IfSome documents (λ after. after
+            ≡ changed_by (documents_of self.old.moment.table) (map told changes.now)) }
         ensures leaves { OnOk result (table_of F.held self.new ≡ one_more (feeding self.old.most)
             (after_changes (feeding self.old.most) (table_of F.held self.old) (map told changes.now))) }
         ensures place { OnOk result (self.new.moment.place < 2 ^ 64) }
@@ -171,7 +195,13 @@ impl<F: Opening> LiveTable<F> {
         ensures same { OnErr result (self.new ≡ self.old) }
     {
         match changes {
-            [change] => self.land_one(change, documents),
+            [change] => {
+                drop(documents);
+                if self.feeds.len() == 0 {
+                    return self.land_unheard(change);
+                }
+                self.land_heard(change)
+            }
             _ => self.land_many(changes, documents),
         }
     }
@@ -185,8 +215,8 @@ impl<F: Opening> LiveTable<F> {
             (documents_of self.old.moment.table) (indexes_of self.old.moment.table) cmd.now).changes }
         requires summary { planned.summary ≡ (write
             (documents_of self.old.moment.table) (indexes_of self.old.moment.table) cmd.now).summary }
-        requires documents { planned.documents
-            ≡ changed_by (documents_of self.old.moment.table) (map told planned.changes.items) }
+        requires documents { IfSome planned.documents (λ after. after
+            ≡ changed_by (documents_of self.old.moment.table) (map told planned.changes.items)) }
         ensures does { IfOk result (λ w. Does F.held by (known.Write cmd.now) self.old self.new
             w.said) }
         ensures kept { IfOk result (λ w. map kept_of w.kept.items ≡ map at_key (changes_at

@@ -1,6 +1,7 @@
 -- The list of a table's indexes, with one put in, taken out or renamed.
 use Rattle.std.proofs.Common.{◌≡◌, ℕ, zero, suc, ◌<◌, ◌≤◌, List, [], ◌∷◌, length, get_or, set, map, Option, Some, None, option_map, Result, Ok, Err, IfOk, refl, sym, ap, ◌∙◌, subst, Ordering, Less, Equal, Greater}
 use Rattle.std.specs.List.{AllByRecursion, insert, remove}
+use Rattle.std.specs.List.Sorted.{IsStrictlySortedBy}
 use Rattle.std.specs.Map.{keys_of}
 use Rattle.std.proofs.lemmas.Cmp.{nat_list_cmp_total}
 use Rattle.reql_memory.specs.Sorted.{AreRisingBy, IsHitBy, IsGapBy}
@@ -15,7 +16,7 @@ use Rattle.reql_datum.specs.Plain.{Plain}
 use Rattle.reql_datum.specs.Total.{order_total}
 use Rattle.reql_rules.specs.Lists.{Bytes}
 use Rattle.reql_term.specs.Views.{Document, Index}
-use Rattle.reql_write_law.specs.Treated.{set_at}
+use Rattle.reql_write_law.specs.Treated.{Changed, changed, set_at}
 use Rattle.reql_table.specs.Edits.{renamed, key_at, seen_if, turned}
 use Rattle.reql_table.specs.Seen.{Numbered, Standing, unnumbered, numbered, numbered_of, indexes_of, AreNumbered, IsFiled, Keeps}
 use Rattle.reql_table.specs.declared.filed.FiledIndex.{FiledIndex}
@@ -53,6 +54,16 @@ keeps_those docs new is js e f up names filed next numbers =
 turned_rises : (k : Plain) (new : Option Plain) (docs : List Document) → AreRisingBy order docs → AreRisingBy order (set_at k new docs)
 turned_rises k None docs up = rising_without order order_total k docs up
 turned_rises k (Some d) docs up = rising_put order order_total k d docs up
+
+-- without indexes, after a change
+pub keeps_none : (x : Changed) (docs : List Document) (is : List FiledIndex) (ms : List (Bytes × Numbered)) (next : ℕ) → AreRisingBy order docs → map numbered is ≡ ms → is ≡ [] → AreNumbered ms next → Keeps (changed docs x) [] next
+unfolding IsStrictlySortedBy
+keeps_none x docs is ms next up e none numbers = record {
+  documents_rise = turned_rises x.key x.new docs up;
+  names_rise = tt;
+  filed = tt;
+  numbers = subst (λ ns. AreNumbered ns next) (sym e ∙ ap (map numbered) none) numbers;
+}
 
 pub keeps_turned : (t : Turn) (docs new : List Document) (is rest js : List FiledIndex) → new ≡ turned t docs → js ≡ rest → map numbered rest ≡ map numbered is → AreRisingBy order docs → AreRising (map numbered is)
     → AllByRecursion (IsFiled (turned t docs)) rest → (ms : List (Bytes × Numbered)) (next after : ℕ) → map numbered is ≡ ms → after ≡ next → AreNumbered ms next → Keeps new js after

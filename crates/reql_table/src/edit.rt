@@ -1,14 +1,15 @@
 // A table after changes of its documents.
-ghost use Rattle.std.specs.Prelude.{◌≡◌, map, option_map, IfOk};
+ghost use Rattle.std.specs.Prelude.{◌≡◌, map, is_ok, option_map, IfOk, if◌then◌else◌};
 ghost use Rattle.std.specs.List.{AllByRecursion};
+ghost use Rattle.reql_memory.specs.CopyOnWrite.{held_items};
 ghost use Rattle.reql_memory.specs.Sorted.{AreRisingBy};
 ghost use Rattle.reql_datum.specs.Members.{AreRising};
 ghost use Rattle.reql_datum.specs.Order.{order};
 ghost use Rattle.reql_datum.specs.View.{plain};
 ghost use Rattle.reql_write_law.specs.Laws.{AllCome};
 ghost use Rattle.reql_write_law.specs.Treated.{changed, changed_by};
-ghost use Rattle.reql_table.specs.Edits.{key_at, seen_if, told, turned};
-ghost use Rattle.reql_table.specs.Seen.{documents_of, numbered, numbered_of, GivesNumbers, IsFiled};
+ghost use Rattle.reql_table.specs.Edits.{key_at, seen_if, told};
+ghost use Rattle.reql_table.specs.Seen.{documents_of, next_of, numbered, numbered_of, GivesNumbers, IsFiled, Keeps};
 ghost use Rattle.reql_table.specs.Trees.{Follows};
 
 use crate::filed::FiledIndex;
@@ -19,6 +20,7 @@ use reql_datum::{Datum, Memory};
 use reql_ptree::{Steps, Tree};
 use reql_write_law::Change;
 use std::marker::Model;
+use std::sync::Arc;
 
 /// A table after changes, ready to be installed.
 #[derive(Drop)]
@@ -39,17 +41,22 @@ impl Model for Prepared {
     ghost view = { λ p. p.table };
 }
 
-// The documents after one of them turned.
-fn documents_after(tree: &Tree, turn: &Turn<'_>) -> Result<Tree, Memory>
-    ensures { IfOk result (λ t. t ≡ turned turn.now tree.now) }
+// Puts the document of a change, or leaves out its key, in place where nobody shares the tree. Without
+// memory all is as it was.
+fn change_document(documents: &mut Tree, change: &Change) -> Result<(), Memory>
+    ensures { documents.new ≡ (if is_ok result then changed documents.old (told change.now)
+        else documents.old) }
 {
     let mut steps = Steps::start();
-    match turn.new {
-        None => tree.remove(turn.key, &mut steps),
-        Some(document) => match tree.put(turn.key.copy()?, document.copy()?, &mut steps) {
-            Ok(tree) => Ok(tree),
-            Err(_) => Err(Memory),
-        },
+    match &change.new {
+        None => documents.remove_own(&change.key, &mut steps),
+        Some(document) => {
+            let (key, document) = (change.key.copy()?, document.copy()?);
+            match documents.put_own(key, document, &mut steps) {
+                Ok(()) => Ok(()),
+                Err(_) => Err(Memory),
+            }
+        }
     }
 }
 
@@ -77,23 +84,37 @@ impl Table {
         copies_of(self.alloc, self.all_indexes())
     }
 
-    // The table after a change.
-    fn after(&self, change: &Change) -> Result<Table, Memory>
-        ensures documents { IfOk result (λ t. documents_of t
-            ≡ changed (documents_of self.now) (told change.now)) }
-        ensures indexes { IfOk result (λ t. t.1 ≡ self.now.1) }
+    // Its indexes after a change of a document.
+    fn indexes_after(&self, change: &Change) -> Result<Option<Arc<Vec<FiledIndex>>>, Memory>
+        ensures numbered { IfOk result (λ is. map numbered (held_items is) ≡ numbered_of self.now) }
+        ensures keeps { IfOk result (λ is. Keeps (changed (documents_of self.now) (told change.now))
+            (held_items is) (next_of self.now)) }
     {
+        let documents = self.tree();
+        if self.all_indexes().is_empty() {
+            return Ok(None);
+        }
         let mut steps = Steps::start();
-        let turn = turn_of(change, self.tree().get(&change.key, &mut steps));
-        let documents = documents_after(self.tree(), &turn)?;
+        let turn = turn_of(change, documents.get(&change.key, &mut steps));
         let copies = self.copied_indexes()?;
         let indexes = all_refiled(self.alloc, copies, &turn)?;
-        Ok(Table {
-            alloc: self.alloc,
-            documents,
-            indexes: held(self.alloc, indexes)?,
-            next: self.next,
-        })
+        let all = held(self.alloc, indexes)?;
+        Ok(all)
+    }
+
+    /// Changes a document: it is put, or none left, where the change says, and each index is as the
+    /// new documents have it. The tree of documents is changed in place where nobody shares it, a tree
+    /// of an index by copies of the ways to its entries. Refused for want of memory, the table is as
+    /// it was.
+    pub fn apply(&mut self, change: &Change) -> Result<(), Memory>
+        ensures documents { documents_of self.new ≡ (if is_ok result
+            then changed (documents_of self.old) (told change.now) else documents_of self.old) }
+        ensures indexes { self.new.1 ≡ self.old.1 }
+    {
+        let indexes = self.indexes_after(change)?;
+        change_document(&mut self.documents, change)?;
+        self.indexes = indexes;
+        Ok(())
     }
 
     /// The table after changes, to be installed: each document put, or none left, where its change
@@ -107,7 +128,7 @@ impl Table {
     {
         let mut table = self.share()?;
         for change in changes {
-            table = table.after(change)?;
+            table.apply(change)?;
         }
         Ok(Prepared { table })
     }

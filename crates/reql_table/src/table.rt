@@ -99,8 +99,8 @@ impl Table {
         self.documents.share()
     }
 
-    /// The documents, rising by key.
-    pub(crate) fn tree(&self) -> &Tree
+    /// The documents, rising by key: the table's own tree, which is lent, so that no share of it is made.
+    pub fn tree(&self) -> &Tree
         ensures documents { result.now ≡ documents_of self.now }
         ensures rising { AreRisingBy order (documents_of self.now) }
     {

@@ -1,5 +1,5 @@
 // A write planned: its changes and its summary.
-ghost use Rattle.std.specs.Prelude.{◌≡◌, [], IfOk, map, List};
+ghost use Rattle.std.specs.Prelude.{◌≡◌, ◌≤◌, [], IfOk, IfSome, None, length, map, List};
 ghost use Rattle.reql_datum.specs.Answer.{Answer};
 ghost use Rattle.reql_datum.specs.Outcome.{Gives, Fails};
 ghost use Rattle.reql_rules.specs.Lists.{joined};
@@ -28,8 +28,9 @@ pub struct Planned {
     /// The changes of the table that the write was planned on, in order.
     pub changes: Vec<Change>,
     pub summary: Summary,
-    /// The documents after them, as a tree that shares what they leave as it is.
-    pub documents: Tree,
+    /// The documents after them, as a tree that shares what they leave as it is. None where one
+    /// document was treated alone, or the rows have a fault: nothing had to be treated on such a tree.
+    pub documents: Option<Tree>,
 }
 
 // The documents that are inserted, or the primary keys of the rows.
@@ -52,15 +53,20 @@ fn items_of(alloc: Global, table: &Table, cmd: &WriteCmd) -> Result<Items, Fault
 // What becomes of each document that the write treats, with the documents after it, or the fault of
 // its rows.
 #[tactic(auto, using(crate::proofs::Acting::treated_is))]
-fn treat(alloc: Global, table: &Table, cmd: &WriteCmd) -> Result<(Vec<Treated>, Tree), Fault>
+fn treat(
+    alloc: Global,
+    table: &Table,
+    cmd: &WriteCmd,
+) -> Result<(Vec<Treated>, Option<Tree>), Fault>
     ensures treated { Gives (λ r. map seen r.0.items) result (treated_of cmd.now.key
         (documents_of table.now) (indexes_of table.now) cmd.now.act) }
-    ensures documents { IfOk result (λ r. r.1 ≡ changed_by (documents_of table.now)
-        (joined (map changes_of (map seen r.0.items)))) }
+    ensures documents { IfOk result (λ r. IfSome r.1 (λ after. after
+        ≡ changed_by (documents_of table.now) (joined (map changes_of (map seen r.0.items))))) }
+    ensures alone { IfOk result (λ r. r.1 ≡ None
+        → length (joined (map changes_of (map seen r.0.items))) ≤ 1) }
 {
     let items = items_of(alloc, table, cmd)?;
-    let documents = table.documents()?;
-    let all = treat_all(alloc, &cmd.key, &cmd.act, &items, &documents)?;
+    let all = treat_all(alloc, &cmd.key, &cmd.act, &items, table.tree())?;
     Ok(all)
 }
 
@@ -100,7 +106,7 @@ fn plan_of(
     alloc: Global,
     cmd: &WriteCmd,
     treated: &[Treated],
-    documents: Tree,
+    documents: Option<Tree>,
 ) -> Result<Planned, Memory>
     ensures changes { IfOk result (λ p. map told p.changes.items
         ≡ joined (map changes_of (map seen treated.now))) }
@@ -117,19 +123,19 @@ fn plan_of(
 
 // The write whose rows can't be evaluated: that counts once, and changes nothing.
 #[tactic(auto, using(crate::proofs::Told::told_summary, crate::proofs::Told::told_changes))]
-fn refused(alloc: Global, table: &Table, cmd: &WriteCmd, fault: Fault) -> Result<Planned, Memory>
+fn refused(alloc: Global, cmd: &WriteCmd, fault: Fault) -> Result<Planned, Memory>
     ensures changes { (a : Answer (List Meant)) → Fails fault a
         → IfOk result (λ p. map told p.changes.items ≡ all_changes a) }
     ensures summary { (a : Answer (List Meant)) → Fails fault a
         → IfOk result (λ p. p.summary ≡ summary_of cmd.now.returns (made_by_of cmd.now.act) a) }
     ensures none { IfOk result (λ p. p.changes.items ≡ []) }
-    ensures documents { IfOk result (λ p. p.documents ≡ documents_of table.now) }
+    ensures documents { IfOk result (λ p. p.documents ≡ None) }
 {
     let Planned {
         changes,
         summary,
         documents,
-    } = plan_of(alloc, cmd, &[], table.documents()?)?;
+    } = plan_of(alloc, cmd, &[], None)?;
     let first_error = Some(text_of(alloc, fault)?);
     Ok(Planned {
         changes,
@@ -145,18 +151,19 @@ fn refused(alloc: Global, table: &Table, cmd: &WriteCmd, fault: Fault) -> Result
 /// What a write does to a table, and what it reports, by the table as it is. The rows of a write are
 /// listed first; then each document is treated on what those before it made of the table. A document
 /// that can't be written counts in the summary's errors, and so does, once, a fault in evaluating the
-/// rows. The table stays as it is: `Table::prepare` takes the changes. Refused for want of memory
-/// alone.
+/// rows. The table stays as it is: `Table::apply`, `prepare` and `with_changes` take the changes.
+/// Refused for want of memory alone.
 pub fn plan_write(alloc: Global, table: &Table, cmd: &WriteCmd) -> Result<Planned, Memory>
     ensures changes { IfOk result (λ p. map told p.changes.items
         ≡ (write (documents_of table.now) (indexes_of table.now) cmd.now).changes) }
     ensures summary { IfOk result (λ p. p.summary
         ≡ (write (documents_of table.now) (indexes_of table.now) cmd.now).summary) }
-    ensures documents { IfOk result (λ p. p.documents
-        ≡ changed_by (documents_of table.now) (map told p.changes.items)) }
+    ensures documents { IfOk result (λ p. IfSome p.documents (λ after. after
+        ≡ changed_by (documents_of table.now) (map told p.changes.items))) }
+    ensures alone { IfOk result (λ p. p.documents ≡ None → length p.changes.items ≤ 1) }
 {
     match treat(alloc, table, cmd) {
         Ok((treated, documents)) => plan_of(alloc, cmd, treated.as_slice(), documents),
-        Err(fault) => refused(alloc, table, cmd, fault),
+        Err(fault) => refused(alloc, cmd, fault),
     }
 }

@@ -1,5 +1,5 @@
 // Documents treated one after another, each on what those before it made of the table.
-ghost use Rattle.std.specs.Prelude.{◌≡◌, IfOk, map, option_map};
+ghost use Rattle.std.specs.Prelude.{◌≡◌, ◌≤◌, [], ◌∷◌, None, IfOk, IfSome, length, map, option_map};
 ghost use Rattle.reql_memory.specs.Sorted.{find_by, put_by, without_by};
 ghost use Rattle.reql_datum.specs.Order.{order};
 ghost use Rattle.reql_datum.specs.View.{plain};
@@ -86,9 +86,49 @@ fn turn(documents: &mut Tree, treated: &Treated) -> Result<(), Memory>
     }
 }
 
-/// What becomes of each in order, from the documents that were there at the start, and the documents after all.
-#[tactic(auto, using(reql_datum::proofs::Walks::walks))]
+// What becomes of one alone.
+fn treat_one(
+    alloc: Global,
+    field: &Name,
+    act: &Act,
+    item: &Datum,
+    documents: &Tree,
+) -> Result<Vec<Treated>, Memory>
+    ensures { IfOk result (λ all. map seen all.items ≡ treating field.now act.now documents.now
+        (plain item.now) ∷ []) }
+{
+    let treated = treat(alloc, field, act, item, documents)?;
+    let mut all = Vec::with_capacity(alloc, 1)?;
+    all.push(treated)?;
+    Ok(all)
+}
+
+/// What becomes of each in order, from the documents that were there at the start, and the documents
+/// after all; where there is one item, nothing has to be treated on those, and they aren't made.
 pub(crate) fn treat_all(
+    alloc: Global,
+    field: &Name,
+    act: &Act,
+    items: &Items,
+    start: &Tree,
+) -> Result<(Vec<Treated>, Option<Tree>), Memory>
+    ensures treated { IfOk result (λ r. map seen r.0.items
+        ≡ treat_all_of (treating field.now act.now) start.now items.now) }
+    ensures documents { IfOk result (λ r. IfSome r.1 (λ after. after
+        ≡ changed_by start.now (joined (map changes_of (map seen r.0.items))))) }
+    ensures alone { IfOk result (λ r. r.1 ≡ None
+        → length (joined (map changes_of (map seen r.0.items))) ≤ 1) }
+{
+    if let (Some(item), None) = (items.at(0), items.at(1)) {
+        return Ok((treat_one(alloc, field, act, item, start)?, None));
+    }
+    let (all, documents) = treat_more(alloc, field, act, items, start)?;
+    Ok((all, Some(documents)))
+}
+
+// The same of as many as there are.
+#[tactic(auto, using(reql_datum::proofs::Walks::walks))]
+fn treat_more(
     alloc: Global,
     field: &Name,
     act: &Act,

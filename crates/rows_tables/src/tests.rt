@@ -171,3 +171,31 @@ fn a_deletion_is_handed_over_once(rt: HostRuntime) -> Result<(), Fail> {
     assert!(rt; deletion(rt.alloc())?);
     Ok(())
 }
+
+// Inserts the documents of the keys from one to another.
+fn insert_from(alloc: Global, core: &mut Core, from: i64, to: i64) -> Result<(), Memory> {
+    for key in from..to {
+        give(core, insert(alloc, key)?)?;
+    }
+    Ok(())
+}
+
+// Whether a look at forty documents, taken between writes that change the table itself, still finds them when others have come
+// and one has gone.
+fn look_stays(alloc: Global) -> Result<bool, Memory> {
+    let mut core = Core::new(alloc, &Limits::usual())?;
+    insert_from(alloc, &mut core, 0, 40)?;
+    let look = core.ask(&Snap)?;
+    insert_from(alloc, &mut core, 40, 45)?;
+    give(&mut core, delete(alloc, 7)?)?;
+    let Some(table) = &look.view else {
+        return Ok(false);
+    };
+    Ok(table.tree().len() == 40 && look.place == 40 && stands(&core, 44, 46)?)
+}
+
+#[test]
+fn a_look_stays_as_it_was_when_documents_come_and_go(rt: HostRuntime) -> Result<(), Fail> {
+    assert!(rt; look_stays(rt.alloc())?);
+    Ok(())
+}

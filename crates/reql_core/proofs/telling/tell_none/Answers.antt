@@ -7,4 +7,4 @@ returns-clause-at g c =
 
 pub returns-clause-leads : goal.returns-clause-leads
 returns-clause-leads g c = λ stamp.
-    leads_untold g.F.Following.held c.args.feeds.now c.in_ok-draft.draft c.requires.none c.in_ok-draft.ensures.same c.args.table.now c.in_ok-after.after stamp c.args.changes.now c.in_ok-after.ensures.documents c.in_ok-after.ensures.indexes
+    leads_untold g.F.Following.held c.args.feeds.now c.in_ok-draft.draft c.requires.none c.in_ok-draft.ensures.same c.args.table.now c.in_ok-after.after stamp c.args.changes.now c.in_ok-after.ensures.documents c.in_ok-after.ensures.same

@@ -8,7 +8,7 @@ use Rattle.reql_write_law.specs.Treating.{treat_all as treat_all_of}
 use Rattle.reql_write.specs.Acting.{treating}
 use Rattle.reql_write.specs.Seen.{seen}
 use Rattle.reql_write.proofs.After.{after_one, treated_on}
-use Rattle.reql_write.proofs.treating.treat_all.Goals as goal
+use Rattle.reql_write.proofs.treating.treat_more.Goals as goal
 
 pub loop-item-preserved : goal.loop-item-preserved
 loop-item-preserved c =

@@ -4,7 +4,7 @@ use Rattle.reql_write_law.specs.Treated.{changed_by, changes_of}
 use Rattle.reql_write_law.specs.Treating.{treat_all}
 use Rattle.reql_write.specs.Acting.{treating}
 use Rattle.reql_write.specs.Seen.{seen}
-use Rattle.reql_write.proofs.treating.treat_all.Given as goal
+use Rattle.reql_write.proofs.treating.treat_more.Given as goal
 
 abbrev pub decreases-loop-item : goal.decreases-loop-item
 decreases-loop-item l = length l.items - l.place
