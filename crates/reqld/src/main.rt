@@ -34,7 +34,7 @@ options, in any order; the word after an option is its value:
                    without it the key is empty
   --table DB.NAME  this table is there from the start, empty and with the key field id, and its
                    database; up to 256 times, each table once. DB and NAME are 1 to 127 characters
-                   of A-Z, a-z, 0-9, _ and -. The database test is always there.
+                   of A-Z, a-z, 0-9, _ and -. The database test is there from the start.
 
 options of listen alone:
   --port PORT      1 to 65535; drivers use 28015 where none is said
