@@ -14,8 +14,3 @@ fault_text fault.TableNotLiteral = codes "Name is not a literal text."
 fault_text fault.FeedShape = codes "Changes cannot follow this term."
 fault_text fault.OffsetsNeedLimit = codes "include_offsets needs order_by with an index and limit."
 fault_text fault.Memory = codes "Out of memory."
-
--- 17 is a compile error; want of memory is a runtime error, 18 (`ql2.proto`, Response.ResponseType)
-abbrev pub answer_type : CompileFault → ℕ
-answer_type fault.Memory = 18
-answer_type e = 17

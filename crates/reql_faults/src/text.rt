@@ -1,6 +1,6 @@
 // What a client is told of a fault of planning.
 ghost use Rattle.std.specs.Prelude.{◌≡◌, IfOk};
-ghost use Rattle.reql_faults.specs.Texts.{unbound_text, fault_text, answer_type};
+ghost use Rattle.reql_faults.specs.Texts.{unbound_text, fault_text};
 
 use crate::fault::CompileFault;
 use reql_datum::{Memory, Name};
@@ -28,21 +28,6 @@ impl CompileFault {
                 "include_offsets needs order_by with an index and limit.",
             ),
             CompileFault::Memory => Name::of(alloc, "Out of memory."),
-        }
-    }
-
-    /// The type of the answer that tells it (`ql2.proto`): 17, a compile error, and 18, a runtime
-    /// error, where memory ran out.
-    pub fn answer_type(&self) -> u8
-        ensures { result ≡ answer_type self.now }
-    {
-        match self {
-            CompileFault::Memory => 18,
-            CompileFault::Unbound(_)
-            | CompileFault::WriteNested
-            | CompileFault::TableNotLiteral
-            | CompileFault::FeedShape
-            | CompileFault::OffsetsNeedLimit => 17,
         }
     }
 }

@@ -1,4 +1,4 @@
--- What a client is told of a fault of reading: its text, and the type of the answer (`ql2.proto`, Response.ResponseType).
+-- What a client is told of a fault of reading.
 use Rattle.std.specs.Prelude.{ℕ, List, ◌++◌, codes}
 use Rattle.std.specs.Fmt.{decimal}
 use Rattle.reql_json.specs.declared.fault.JsonFault.{JsonFault}
@@ -33,14 +33,3 @@ fault_text (fault.Arity n count) = arity_text n count
 fault_text (fault.BadOptarg name) = option_text name
 fault_text (fault.Number e) = number_text e
 fault_text fault.Memory = codes "Out of memory."
-
--- 16 is a client error, 17 a compile error; want of memory is a runtime error, 18
-abbrev pub answer_type : ReadFault → ℕ
-answer_type fault.NotJson = 16
-answer_type fault.BadShape = 16
-answer_type (fault.UnknownTerm n) = 17
-answer_type (fault.LeftOut n) = 17
-answer_type (fault.Arity n count) = 17
-answer_type (fault.BadOptarg name) = 17
-answer_type (fault.Number e) = 17
-answer_type fault.Memory = 18

@@ -1,7 +1,7 @@
 // What a client is told of a fault of reading.
 ghost use Rattle.std.specs.Prelude.{◌≡◌, ◌++◌, codes, IfOk, string_bytes};
 ghost use Rattle.std.specs.Fmt.{decimal};
-ghost use Rattle.reql_read.specs.FaultText.{unknown_text, left_out_text, arity_text, option_text, fault_text, number_text, answer_type};
+ghost use Rattle.reql_read.specs.FaultText.{unknown_text, left_out_text, arity_text, option_text, fault_text, number_text};
 
 use crate::fault::ReadFault;
 use reql_datum::{Memory, Name};
@@ -61,22 +61,6 @@ impl ReadFault {
             ReadFault::BadOptarg(name) => bad_option(alloc, name),
             ReadFault::Number(fault) => Name::of(alloc, number_text(*fault)),
             ReadFault::Memory => Name::of(alloc, "Out of memory."),
-        }
-    }
-
-    /// The type of the answer that tells it (`ql2.proto`): 16 for a client error, 17 for a compile
-    /// error, and 18, a runtime error, where memory ran out.
-    pub fn answer_type(&self) -> u8
-        ensures { result ≡ answer_type self.now }
-    {
-        match self {
-            ReadFault::NotJson | ReadFault::BadShape => 16,
-            ReadFault::Memory => 18,
-            ReadFault::UnknownTerm(_)
-            | ReadFault::LeftOut(_)
-            | ReadFault::Arity(_, _)
-            | ReadFault::BadOptarg(_)
-            | ReadFault::Number(_) => 17,
         }
     }
 }
