@@ -1,5 +1,5 @@
 -- Changes that come in their order: each is of the document that those before it left.
-use Rattle.std.proofs.Common.{◌≡◌, ◌<◌, ◌+◌, ℕ, zero, suc, List, [], ◌∷◌, map, take, length, Option, Some, None, refl, ap, ◌∙◌, subst, arith}
+use Rattle.std.proofs.Common.{◌≡◌, ◌<◌, ◌+◌, ℕ, zero, suc, List, [], ◌∷◌, map, take, length, Option, Some, None, refl, ap, subst, arith}
 use Rattle.std.specs.Prelude.{slice_index_or}
 use Rattle.reql_memory.specs.Sorted.{AreRisingBy, find_by}
 use Rattle.reql_memory.proofs.Sorted.{rising_put, rising_without}
@@ -12,7 +12,7 @@ use Rattle.reql_write_law.specs.Treated.{Changed, set_at, changed, changed_by}
 use Rattle.reql_table.specs.Edits.{key_at, seen_if, turned}
 use Rattle.reql_table.specs.declared.refile.Turn.{Turn}
 
-rises : (key : Plain) (new : Option Plain) (docs : List Document) → AreRisingBy order docs → AreRisingBy order (set_at key new docs)
+pub rises : (key : Plain) (new : Option Plain) (docs : List Document) → AreRisingBy order docs → AreRisingBy order (set_at key new docs)
 rises key None docs up = rising_without order order_total key docs up
 rises key (Some new) docs up = rising_put order order_total key new docs up
 

@@ -5,7 +5,6 @@ use Rattle.std.specs.List.Sorted.{IsStrictlySortedBy}
 use Rattle.std.specs.Ordering.{is_lt, ordering_reverse}
 use Rattle.std.proofs.lemmas.Cmp.{tied_itself}
 use Rattle.std.proofs.lemmas.List.{map-append}
-use Rattle.reql_memory.specs.Sorted.{AreRisingBy, find_by, put_by, without_by}
 use Rattle.reql_memory.proofs.Sorted.{rising_put, rising_without, not_later}
 use Rattle.reql_memory.proofs.Finds.{is_equal, find_put, find_without}
 use Rattle.reql_memory.proofs.Same.{same_found}

@@ -5,7 +5,7 @@ use Rattle.reql_memory.proofs.Sorted.{some_inside}
 use Rattle.reql_datum.specs.Members.{find, put, without}
 use Rattle.reql_rules.specs.Lists.{Bytes}
 use Rattle.reql_term.specs.Views.{Index}
-use Rattle.reql_table.specs.Seen.{Numbered, Standing, numbered_of, next_of, Each, IsGiven, IsAlike, AreNumbered, GivesNumbers}
+use Rattle.reql_table.specs.Seen.{Numbered, Standing, numbered_of, next_of, Each, IsGiven, IsAlike, GivesNumbers}
 use Rattle.reql_table.specs.Trees.{Follows, index_at, number_of}
 use Rattle.reql_table.proofs.Owned.{each_put, each_without, each_found, each_both, each_one}
 

@@ -1,5 +1,5 @@
 -- The list of a table's indexes, with one put in, taken out or renamed.
-use Rattle.std.proofs.Common.{◌≡◌, ℕ, zero, suc, ◌<◌, ◌≤◌, List, [], ◌∷◌, length, get_or, set, map, Option, Some, None, option_map, Result, Ok, Err, IfOk, refl, sym, ap, ◌∙◌, subst, Ordering, Less, Equal, Greater}
+use Rattle.std.proofs.Common.{◌≡◌, ℕ, zero, suc, ◌<◌, List, [], ◌∷◌, length, get_or, set, map, Option, Some, None, option_map, Result, Ok, Err, IfOk, refl, sym, ap, ◌∙◌, subst, Equal}
 use Rattle.std.specs.List.{AllByRecursion, insert, remove}
 use Rattle.std.specs.List.Sorted.{IsStrictlySortedBy}
 use Rattle.std.specs.Map.{keys_of}
@@ -12,15 +12,14 @@ use Rattle.reql_memory.proofs.Sorted.{rising_put, rising_without, find_gap, with
 use Rattle.reql_datum.proofs.Order.{text_says}
 use Rattle.reql_datum.specs.Members.{AreRising, find, put, without, text_order}
 use Rattle.reql_datum.specs.Order.{order}
-use Rattle.reql_datum.specs.Plain.{Plain}
-use Rattle.reql_datum.specs.Total.{order_total}
 use Rattle.reql_rules.specs.Lists.{Bytes}
 use Rattle.reql_term.specs.Views.{Document, Index}
-use Rattle.reql_write_law.specs.Treated.{Changed, changed, set_at}
+use Rattle.reql_write_law.specs.Treated.{Changed, changed}
 use Rattle.reql_table.specs.Edits.{renamed, key_at, seen_if, turned}
 use Rattle.reql_table.specs.Seen.{Numbered, Standing, unnumbered, numbered, numbered_of, indexes_of, AreNumbered, IsFiled, Keeps}
 use Rattle.reql_table.specs.declared.filed.FiledIndex.{FiledIndex}
 use Rattle.reql_table.specs.declared.refile.Turn.{Turn}
+use Rattle.reql_table.proofs.Coming.{rises}
 
 -- ---- without the numbers of trees
 abbrev told : Numbered → Index
@@ -51,25 +50,20 @@ pub keeps_those : (docs new : List Document) (is js : List FiledIndex) → new �
 keeps_those docs new is js e f up names filed next numbers =
     subst (λ ds. Keeps ds js next) (sym e) (subst (λ is. Keeps docs is next) (sym f) (record { documents_rise = up; names_rise = names; filed = filed; numbers = numbers }))
 
-turned_rises : (k : Plain) (new : Option Plain) (docs : List Document) → AreRisingBy order docs → AreRisingBy order (set_at k new docs)
-turned_rises k None docs up = rising_without order order_total k docs up
-turned_rises k (Some d) docs up = rising_put order order_total k d docs up
-
 -- without indexes, after a change
 pub keeps_none : (x : Changed) (docs : List Document) (is : List FiledIndex) (ms : List (Bytes × Numbered)) (next : ℕ) → AreRisingBy order docs → map numbered is ≡ ms → is ≡ [] → AreNumbered ms next → Keeps (changed docs x) [] next
 unfolding IsStrictlySortedBy
 keeps_none x docs is ms next up e none numbers = record {
-  documents_rise = turned_rises x.key x.new docs up;
+  documents_rise = rises x.key x.new docs up;
   names_rise = tt;
   filed = tt;
   numbers = subst (λ ns. AreNumbered ns next) (sym e ∙ ap (map numbered) none) numbers;
 }
 
 pub keeps_turned : (t : Turn) (docs new : List Document) (is rest js : List FiledIndex) → new ≡ turned t docs → js ≡ rest → map numbered rest ≡ map numbered is → AreRisingBy order docs → AreRising (map numbered is)
-    → AllByRecursion (IsFiled (turned t docs)) rest → (ms : List (Bytes × Numbered)) (next after : ℕ) → map numbered is ≡ ms → after ≡ next → AreNumbered ms next → Keeps new js after
-keeps_turned t docs new is rest js e f g up names filed ms next after h same numbers =
-    keeps_those (turned t docs) new rest js e f (turned_rises (key_at t) (seen_if t.new) docs up) (subst AreRising (sym g) names) filed after
-    (subst (AreNumbered (map numbered rest)) (sym same) (subst (λ ms. AreNumbered ms next) (sym (g ∙ h)) numbers))
+    → AllByRecursion (IsFiled (turned t docs)) rest → (ms : List (Bytes × Numbered)) (next : ℕ) → map numbered is ≡ ms → AreNumbered ms next → Keeps new js next
+keeps_turned t docs new is rest js e f g up names filed ms next h numbers =
+    keeps_those (turned t docs) new rest js e f (rises (key_at t) (seen_if t.new) docs up) (subst AreRising (sym g) names) filed next (subst (λ ms. AreNumbered ms next) (sym (g ∙ h)) numbers)
 
 -- ---- an index in the place of the one of its name
 text_exact : (s t : Bytes) → text_order s t ≡ Equal → s ≡ t

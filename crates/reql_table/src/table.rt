@@ -90,15 +90,6 @@ impl Table {
         })
     }
 
-    /// The documents, rising by key, as a share of their tree that later edits of this table leave as
-    /// it is. Memory where a count of sharers is full.
-    pub fn documents(&self) -> Result<Tree, Memory>
-        ensures documents { IfOk result (λ t. t ≡ documents_of self.now) }
-        ensures rising { IfOk result (AreRisingBy order) }
-    {
-        self.documents.share()
-    }
-
     /// The documents, rising by key: the table's own tree, which is lent, so that no share of it is made.
     pub fn tree(&self) -> &Tree
         ensures documents { result.now ≡ documents_of self.now }

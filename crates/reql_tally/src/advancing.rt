@@ -40,10 +40,8 @@ fn advance(table: &mut Table, kept: &Kept) -> Result<(), Memory>
         ≡ changed_by (documents_of table.old) (kept_of kept.now ∷ [])) }
     ensures indexes { IfOk result (λ _. indexes_of table.new ≡ indexes_of table.old) }
 {
-    let changes = [change_of(kept)?];
-    let prepared = table.prepare(&changes)?;
-    table.install(prepared);
-    Ok(())
+    let change = change_of(kept)?;
+    table.apply(&change)
 }
 
 fn kept_at(changes: &[Kept], place: u64) -> Option<&Kept>

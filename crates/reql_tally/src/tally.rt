@@ -36,8 +36,7 @@ fn documents_after(alloc: Global, changes: &[Kept]) -> Result<u64, Memory>
     ensures { IfOk result (λ n. n ≡ length (changed_by [] (map kept_of changes.now))) }
 {
     let table = advanced(Table::new(alloc), changes, 0, changes.len() as u64)?;
-    let documents = table.documents()?;
-    Ok(documents.len())
+    Ok(table.tree().len())
 }
 
 fn tally_of<F: Opening>(
@@ -65,9 +64,8 @@ fn tally_of<F: Opening>(
 fn is_empty(alloc: Global, table: &Table) -> Result<bool, Memory>
     ensures { IfOk result (λ b. b ≡ is_empty_of table.now) }
 {
-    let documents = table.documents()?;
     let names = table.names(alloc)?;
-    Ok(documents.len() == 0 && names.len() == 0)
+    Ok(table.tree().len() == 0 && names.len() == 0)
 }
 
 // Whether a base is that of a history that began with an empty table.
@@ -81,11 +79,10 @@ fn begins(alloc: Global, place: u64, stamp: u64, table: &Table) -> Result<bool, 
 
 // Whether a table stands where it was counted to.
 #[tactic(auto, using(crate::proofs::Tallies::ends_at))]
-fn is_there(seen: &SeenTable, tally: &Tally) -> Result<bool, Memory>
-    ensures { (s : State) → IsTable s seen.now → IfOk result (Ends s tally.now) }
+fn is_there(seen: &SeenTable, tally: &Tally) -> bool
+    ensures { (s : State) → IsTable s seen.now → Ends s tally.now result }
 {
-    let documents = seen.table.documents()?;
-    Ok(tally.documents == documents.len() && tally.changes == seen.stamp)
+    tally.documents == seen.table.tree().len() && tally.changes == seen.stamp
 }
 
 // Whether the table of an engine does.
@@ -94,7 +91,7 @@ fn stands<F: Opening>(engine: &TableCore<F>, tally: &Tally) -> Result<bool, Memo
     ensures { IfOk result (Ends (state_of F.held engine.now) tally.now) }
 {
     match looked(engine)? {
-        Some(seen) => is_there(&seen, tally),
+        Some(seen) => Ok(is_there(&seen, tally)),
         None => Ok(false),
     }
 }

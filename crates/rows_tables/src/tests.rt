@@ -103,7 +103,7 @@ fn keeps_half(core: &Core, key: i64) -> bool {
 fn stands(core: &Core, documents: u64, commands: u64) -> Result<bool, Memory> {
     let look = core.ask(&Snap)?;
     match &look.view {
-        Some(table) => Ok(table.documents()?.len() == documents && look.place == commands),
+        Some(table) => Ok(table.tree().len() == documents && look.place == commands),
         None => Ok(false),
     }
 }

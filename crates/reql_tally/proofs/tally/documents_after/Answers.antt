@@ -8,5 +8,5 @@ use Rattle.reql_tally.proofs.tally.documents_after.Goals as goal
 
 pub returns : goal.returns
 returns c =
-    c.len.ensures ∙ ap length (c.in_ok-documents.ensures.documents ∙ c.in_ok-table.ensures.documents ∙ ap (λ (docs : List Document). docs_after docs (map kept_of c.args.changes.now) 0 (length c.args.changes.now)) c.new.ensures.documents
+    c.len.ensures ∙ ap length (c.tree.ensures.documents ∙ c.in_ok-table.ensures.documents ∙ ap (λ (docs : List Document). docs_after docs (map kept_of c.args.changes.now) 0 (length c.args.changes.now)) c.new.ensures.documents
     ∙ all_of [] (map kept_of c.args.changes.now) (length c.args.changes.now) (sym (length-map c.args.changes.now kept_of)))

@@ -1,4 +1,4 @@
-use Rattle.std.proofs.Common.{ap, sym, refl, ◌∙◌, rules}
+use Rattle.std.proofs.Common.{ap, sym, ◌∙◌, rules}
 use Rattle.std.proofs.lemmas.List.{nil_from_length}
 use Rattle.reql_datum.specs.Plain.{Plain}
 use Rattle.reql_datum.specs.View.{plain}
@@ -20,7 +20,7 @@ returns-clause-keeps c =
     in
     keeps_turned t docs (changed docs x) c.in_ok-copies.copies.items c.in_ok-indexes.indexes.items _ (sym (turned_is t x docs c.turn_of-turn.ensures.key c.turn_of-turn.ensures.new)) c.in_ok-all.ensures
     c.in_ok-indexes.ensures.numbered c.tree-documents.ensures.rising c.in_ok-copies.ensures.names (c.in_ok-indexes.ensures.filed docs c.tree-documents.ensures.rising there c.in_ok-copies.ensures.filed)
-    (numbered_of c.args.self.now) (next_of c.args.self.now) _ c.in_ok-copies.ensures.indexes refl c.copied_indexes.ensures.numbers
+    (numbered_of c.args.self.now) (next_of c.args.self.now) c.in_ok-copies.ensures.indexes c.copied_indexes.ensures.numbers
 
 pub returns-then-is_empty-clause-keeps : goal.returns-then-is_empty-clause-keeps
 returns-then-is_empty-clause-keeps c =

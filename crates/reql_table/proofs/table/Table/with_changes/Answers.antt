@@ -8,7 +8,7 @@ use Rattle.reql_ptree.specs.Pairs.{find}
 use Rattle.reql_term.specs.Views.{Document}
 use Rattle.reql_write_law.specs.Treated.{Changed, changed, changed_by}
 use Rattle.reql_table.specs.Edits.{seen_if, told}
-use Rattle.reql_table.specs.Seen.{documents_of, next_of, numbered, numbered_of, AreNumbered, IsFiled}
+use Rattle.reql_table.specs.Seen.{documents_of, next_of, numbered, AreNumbered, IsFiled}
 use Rattle.reql_table.proofs.Coming.{next_change, at_map, take_whole, all_rise, turned_is}
 use Rattle.reql_table.proofs.Listed.{keeps_those}
 use Rattle.reql_table.proofs.table.Table.with_changes.Goals as goal
