@@ -7,9 +7,9 @@ key = sys.argv[2].encode() if len(sys.argv) > 2 else b""
 server = socket.create_connection(("127.0.0.1", port)).makefile("rwb")
 server.write(struct.pack("<II", 0x400C2D20, len(key)) + key + struct.pack("<I", 0x7E6970C7))
 server.flush()
-greeted = b"".join(iter(lambda: server.read(1), b"\0")).decode()
-if greeted != "SUCCESS":
-    sys.exit(greeted)
+greeted = server.read(8)
+if greeted != b"SUCCESS\0":
+    sys.exit((greeted + server.read()).decode().strip("\0"))
 followed = 0
 for token, line in enumerate(sys.stdin.buffer, 1):
     body = line.strip()
