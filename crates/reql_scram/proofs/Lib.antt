@@ -1,0 +1,5 @@
+pub mod Bits
+pub mod Iterates
+pub mod Differences
+pub mod Blocks
+pub mod Asked
