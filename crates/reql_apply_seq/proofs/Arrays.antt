@@ -27,7 +27,7 @@ one_seen w v.Function = refl
 
 plain_seen : (w : World) (g : Arg) → is_array (shown w g) ≡ is_plain g
 plain_seen w (a.Value u) = one_seen w u
-plain_seen w (a.Function at) = refl
+plain_seen w (a.Function f) = refl
 plain_seen w (a.Directed down k) = refl
 plain_seen w (a.Late texted o) = refl
 

@@ -16,7 +16,7 @@ use Rattle.reql_apply_seq.specs.Orders.{is_falling, row_of, row_key, document_of
 
 falling_shown : (w : World) (g : Arg) → is_down (shown w g) ≡ is_falling g
 falling_shown w (a.Value v) = refl
-falling_shown w (a.Function at) = refl
+falling_shown w (a.Function f) = refl
 falling_shown w (a.Directed down k) = refl
 falling_shown w (a.Late texted o) = refl
 

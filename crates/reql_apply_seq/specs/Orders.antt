@@ -23,7 +23,7 @@ use Rattle.reql_apply_seq.specs.declared.spans.Span.{Span}
 -- whether a key stands under DESC
 abbrev pub is_falling : Arg → Bool
 is_falling (a.Value v) = false
-is_falling (a.Function at) = false
+is_falling (a.Function f) = false
 is_falling (a.Directed down k) = down
 is_falling (a.Late texted o) = false
 

@@ -111,8 +111,8 @@ fn directed_key<F: Fn(usize, &[Datum]) -> Result<Value, Fault>>(
         (answer_key_of calls (key_seen w key.now) (plain d.now)) }
 {
     match key {
-        Key::Function(at) => {
-            let value = call(*at, slice::from_ref(d))?;
+        Key::Function(function) => {
+            let value = call(function.at, slice::from_ref(d))?;
             into_datum(alloc, value)
         }
         Key::Value(value) => constant_key(alloc, value, d),

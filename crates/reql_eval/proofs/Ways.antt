@@ -107,7 +107,7 @@ lazy_is way.Raising rule ss os w vars t = cc
 
 applied_is : (s : Sense) (w : World) (ds : List Plain) → applied_to s w ds ≡ given_to s w [] ds
 applied_is (plain f) w ds = refl
-applied_is (func f) w ds = refl
+applied_is (func o f) w ds = refl
 applied_is (sorter down s) w ds = refl
 applied_is (raiser texted f) w ds = refl
 

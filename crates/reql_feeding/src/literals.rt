@@ -11,7 +11,7 @@ ghost use Rattle.reql_value.specs.World.{World as Seen, bare_world};
 ghost use Rattle.reql_plan_law.specs.Feeding.{datum_at, given_in as given_in_of, givens as givens_of, name_in as name_in_of};
 
 use reql_datum::{Datum, Fault, Items, Memory, Name, Whole};
-use reql_operand::{Arg, Choice, Value, as_datum, as_number};
+use reql_operand::{Arg, Callee, Choice, Value, as_datum, as_number};
 use reql_term::{Term, TermFields};
 use std::alloc::Global;
 
@@ -21,7 +21,10 @@ fn given_in(term: &Term) -> Result<Arg, Memory>
 {
     match term {
         Term::Lit(datum) => Ok(Arg::Value(Value::One(datum.copy()?))),
-        _ => Ok(Arg::Function(0)),
+        _ => Ok(Arg::Function(Callee {
+            at: 0,
+            makes_object: false,
+        })),
     }
 }
 

@@ -69,7 +69,7 @@ as_argument : (at : ℕ) (s : Sense) (w : World) (vs : Vars) (m : Meant) (d : Pl
 as_argument at (plain f) w vs m d is datum = ap (λ a. a >>= λ n. Ok (given n)) is
 as_argument at (sorter down s) w vs m d is datum = ap (λ a. a >>= λ n. Ok (given n)) is
 as_argument at (raiser texted f) w vs m d is datum = ap (λ a. a >>= λ n. Ok (given n)) is
-as_argument at (func f) w vs m d is datum =
+as_argument at (func o f) w vs m d is datum =
     let h : to_datum callable ≡ Ok d = subst (λ n. to_datum n ≡ Ok d) (sym (same_ok callable m is)) datum in
     absurd (cc (h))
 

@@ -140,19 +140,19 @@ module _ (w u : World) (agree : Agree NoSlot w u) (n : ℕ) (v x : View) (at_w :
 
   abbrev IsPlain : Sense → Type 0
   IsPlain (plain f) = Unit {0}
-  IsPlain (func f) = ⊥
+  IsPlain (func o f) = ⊥
   IsPlain (sorter down s) = ⊥
   IsPlain (raiser texted f) = ⊥
 
   argument_is : (s : Sense) → IsPlain s → (z : World) → argument 0 s z [] ≡ (senses.value s z [] >>= λ m. Ok (given m))
   argument_is (plain f) h z = refl
-  argument_is (func f) h z = absurd h
+  argument_is (func o f) h z = absurd h
   argument_is (sorter down s) h z = absurd h
   argument_is (raiser texted f) h z = absurd h
 
   no_call : (s : Sense) → IsPlain s → (z : World) (ds : List Plain) → call_of s z [] ds ≡ Err misplaced
   no_call (plain f) h z ds = refl
-  no_call (func f) h z ds = absurd h
+  no_call (func o f) h z ds = absurd h
   no_call (sorter down s) h z ds = absurd h
   no_call (raiser texted f) h z ds = absurd h
 

@@ -84,11 +84,11 @@ answered w (Err e) = Err (reason e)
 
 abbrev pub key : World → Key → m.Given
 key w (k.Value v) = m.given (meant w v)
-key w (k.Function at) = m.callee at
+key w (k.Function f) = m.callee f.makes_object f.at
 
 abbrev pub shown : World → Arg → m.Given
 shown w (a.Value v) = m.given (meant w v)
-shown w (a.Function at) = m.callee at
+shown w (a.Function f) = m.callee f.makes_object f.at
 shown w (a.Directed down k) = m.directed down (key w k)
 shown w (a.Late texted o) = m.late texted (answered w o)
 

@@ -1,8 +1,8 @@
 // Function positions: a function is called, and anything else is constant.
 ghost use Rattle.reql_datum.specs.Outcome.{Gives};
 ghost use Rattle.reql_datum.specs.View.{plain};
-ghost use Rattle.std.specs.Prelude.{map};
-ghost use Rattle.reql_value.specs.Called.{answer as answer_of, answer_datum as answer_datum_of, answer_one as answer_one_of, answer_two as answer_two_of, answer_items as answer_items_of, answer_key as answer_key_of, passes as passes_of, answer_test as answer_test_of, constant_key as constant_key_of};
+ghost use Rattle.std.specs.Prelude.{◌≡◌, map};
+ghost use Rattle.reql_value.specs.Called.{answer as answer_of, answer_datum as answer_datum_of, answer_one as answer_one_of, answer_two as answer_two_of, answer_items as answer_items_of, answer_key as answer_key_of, passes as passes_of, answer_test as answer_test_of, constant_key as constant_key_of, gives_pattern as gives_pattern_of, judged as judged_of};
 ghost use Rattle.reql_value.specs.Meant.{Calls, meant_of};
 ghost use Rattle.reql_value.specs.World.{World as Seen};
 ghost use Rattle.reql_operand.specs.Called.{Answers};
@@ -34,7 +34,7 @@ pub fn answer<F: Fn(usize, &[Datum]) -> Result<Value, Fault>>(
         → Gives (meant w) result (answer_of calls (shown w arg.now) (map plain values.now)) }
 {
     match arg {
-        Arg::Function(at) => call(*at, values),
+        Arg::Function(function) => call(function.at, values),
         Arg::Value(value) => Ok(copy_value(alloc, value)?),
         Arg::Directed { down: _, key: _ } => Ok(Value::Function),
         Arg::Late {
@@ -56,8 +56,8 @@ pub fn answer_datum<F: Fn(usize, &[Datum]) -> Result<Value, Fault>>(
         → Gives plain result (answer_datum_of calls (shown w arg.now) (map plain values.now)) }
 {
     match arg {
-        Arg::Function(at) => {
-            let value = call(*at, values)?;
+        Arg::Function(function) => {
+            let value = call(function.at, values)?;
             into_datum(alloc, value)
         }
         _ => as_datum(alloc, arg),
@@ -110,8 +110,8 @@ pub fn answer_items<V: TableView, F: Fn(usize, &[Datum]) -> Result<Value, Fault>
         → Gives plain result (answer_items_of w calls (shown w arg.now) (plain d.now)) }
 {
     match arg {
-        Arg::Function(at) => {
-            let value = call(*at, slice::from_ref(d))?;
+        Arg::Function(function) => {
+            let value = call(function.at, slice::from_ref(d))?;
             let items = to_sequence(alloc, &value, world)?;
             Ok(Datum::List(items))
         }
@@ -170,7 +170,33 @@ pub fn passes<F: Fn(usize, &[Datum]) -> Result<Value, Fault>>(
     }
 }
 
-/// What a function answers on a value, or whether the value fits the constant.
+// Whether what is given for an element may be a pattern: a constant, and what a function gives
+// whose body is an object.
+fn gives_pattern(arg: &Arg) -> bool
+    ensures { (w : Seen) → result ≡ gives_pattern_of (shown w arg.now) }
+{
+    match arg {
+        Arg::Function(function) => function.makes_object,
+        _ => true,
+    }
+}
+
+// The test of FILTER on a value, by what is given for it.
+fn judged(alloc: Global, patterned: bool, given: Datum, d: &Datum) -> Result<Datum, Fault>
+    ensures { Gives plain result (judged_of patterned (plain given) (plain d.now)) }
+{
+    if !patterned {
+        return Ok(given);
+    }
+    let fitting = fits(alloc, &given, d);
+    drop(given);
+    Ok(Datum::Bool(fitting?))
+}
+
+/// The test of FILTER on a value: whether it fits the constant, or the object that a function gives
+/// whose body is one, and what any other function answers.
+///
+/// NonExistence where a name of the pattern isn't there before another one's value differs.
 pub fn answer_test<F: Fn(usize, &[Datum]) -> Result<Value, Fault>>(
     alloc: Global,
     arg: &Arg,
@@ -181,11 +207,6 @@ pub fn answer_test<F: Fn(usize, &[Datum]) -> Result<Value, Fault>>(
     ensures { (w : Seen) (calls : Calls) → Answers w F.Fn call.now calls
         → Gives plain result (answer_test_of calls (shown w arg.now) (plain d.now)) }
 {
-    match arg {
-        Arg::Function(_) => answer_one(alloc, arg, d, call),
-        _ => {
-            let constant = as_datum(alloc, arg)?;
-            Ok(Datum::Bool(fits(&constant, d)))
-        }
-    }
+    let given = answer_one(alloc, arg, d, call)?;
+    judged(alloc, gives_pattern(arg), given, d)
 }

@@ -42,7 +42,7 @@ fn field_of_object(alloc: Global, name: &str, fields: &Fields) -> Result<Datum, 
 }
 
 // That an object lacks a field.
-fn no_attribute(alloc: Global, name: &str) -> Result<Name, Memory>
+pub(crate) fn no_attribute(alloc: Global, name: &str) -> Result<Name, Memory>
     ensures { IfOk result (λ text. non_existence text ≡ no_attribute_of name.now) }
 {
     match format!(in alloc; "No attribute `{}` in object.", name) {

@@ -34,7 +34,7 @@ pub use texts::{
     bad_option, misplaced, misplaced_order, negative_count, no_index, not_a_key, over_range,
     wrong_count,
 };
-pub use value::{Arg, Bounds, Choice, Group, Key, Rows, Slice, Value};
+pub use value::{Arg, Bounds, Callee, Choice, Group, Key, Rows, Slice, Value};
 pub use wanted::{
     as_array, as_datum, as_number, as_text, datum_of, into_datum, is_nothing, items_in_arg,
     number_in_arg, text_in_arg, text_of, type_name, value_in, value_of, wrong, wrong_arg,

@@ -63,19 +63,26 @@ pub enum Value {
     Function,
 }
 
-/// A key of ORDER_BY: a value, or the function that stands at a place.
+/// The function that stands at a place, and whether its body is an object: what such a one gives is
+/// a pattern to FILTER.
+#[derive(Clone, Copy, Drop)]
+pub struct Callee {
+    pub at: usize,
+    pub makes_object: bool,
+}
+
+/// A key of ORDER_BY: a value, or a function.
 #[derive(Drop)]
 pub enum Key {
     Value(Value),
-    Function(usize),
+    Function(Callee),
 }
 
 /// What an argument gives.
 #[derive(Drop)]
 pub enum Arg {
     Value(Value),
-    /// The function that stands at this place.
-    Function(usize),
+    Function(Callee),
     /// A key under ASC or, where it is down, DESC.
     Directed {
         down: bool,

@@ -70,7 +70,7 @@ module _ (u w : World) where
   -- a datum in the place of a term that gives it
   data_same : (s : Sense) (d : Plain) → value s w [] ≡ Ok (one d) → Same s (plain (λ v vars. Ok (one d)))
   data_same (plain f) d h = plain_same f (λ v vars. Ok (one d)) h
-  data_same (func f) d h = absurd (cc (h))
+  data_same (func o f) d h = absurd (cc (h))
   data_same (sorter down s) d h = absurd (fails misplaced_order (one d) (then_ok (value s w []) (λ m. Err misplaced_order) (one d) h).2)
   data_same (raiser texted f) d h = record { valued = h; argued = λ at. ap given_of h; keyed_by = λ at. ap given_of h; indexed = ap given_of h; called_by = λ ds. refl }
 
@@ -250,7 +250,7 @@ module _ (u w : World) where
   -- FILTER's default, which an ERROR tells unraised
   unraised : (s : Sense) → is_raiser s ≡ false → default_option s w [] ≡ given_of (value s w [])
   unraised (plain f) h = refl
-  unraised (func f) h = refl
+  unraised (func o f) h = refl
   unraised (sorter down s) h = refl
   unraised (raiser texted f) h = absurd (cc (h))
 

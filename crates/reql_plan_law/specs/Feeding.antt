@@ -38,7 +38,7 @@ use Rattle.reql_plan_law.specs.Texts.{over_limit, multi_feed}
 -- what an argument or an optional one is, once it has its data; a function stands as it is, and is no datum
 abbrev pub given_in : Form → Given
 given_in (literal d) = given (one d)
-given_in f = callee 0
+given_in f = callee false 0
 
 abbrev pub givens : List (Bytes × Form) → Options
 givens ms = map (λ m. (m.0, given_in m.1)) ms

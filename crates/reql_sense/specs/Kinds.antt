@@ -18,8 +18,13 @@ abbrev pub Body : Type 0
 Body = World → Vars → List Plain → Answer Meant
 
 abbrev pub body_of : Sense → Option Body
-body_of (func f) = Some f
+body_of (func shaped f) = Some f
 body_of s = None
+
+-- of a function, whether its body is an object
+abbrev pub shape_of : Sense → Option Bool
+shape_of (func shaped f) = Some shaped
+shape_of s = None
 
 -- whether it is down, and its key
 abbrev pub direction_of : Sense → Option (Bool × Sense)
@@ -28,7 +33,7 @@ direction_of s = None
 
 -- the function that a term is, under any directions
 abbrev pub callee_of : Sense → Option Body
-callee_of (func f) = Some f
+callee_of (func shaped f) = Some f
 callee_of (sorter down s) = callee_of s
 callee_of s = None
 
@@ -39,7 +44,7 @@ raising_of s = None
 
 -- a function called with these values, else the value
 abbrev pub given_to : Sense → World → Vars → List Plain → Answer Meant
-given_to (func f) w vars ds = f w vars ds
+given_to (func shaped f) w vars ds = f w vars ds
 given_to s w vars ds = value s w vars
 
 -- what an operator denotes whose counts are right

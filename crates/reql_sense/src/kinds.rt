@@ -1,11 +1,13 @@
 // What tells a term that is a function, a key with its direction or an ERROR from the rest.
 ghost use Rattle.std.specs.Prelude.{◌≡◌, ◌<◌, IfSome, option_map};
-ghost use Rattle.reql_term.specs.Form.{weight};
+ghost use Rattle.reql_datum.specs.View.{plain};
+ghost use Rattle.reql_term.specs.Form.{literal, weight};
 ghost use Rattle.reql_term.specs.View.{form_of};
-ghost use Rattle.reql_value.specs.Meaning.{sense, sense_of, is_fit as is_fit_of, called, ordered};
+ghost use Rattle.reql_value.specs.Meaning.{sense, sense_of, is_fit as is_fit_of, called, makes_object as makes_object_of, ordered};
 ghost use Rattle.reql_sense.specs.Bound.{listed, optional, all_weight};
-ghost use Rattle.reql_sense.specs.Kinds.{body_of, direction_of, callee_of, raising_of, sense_in, all_taken};
+ghost use Rattle.reql_sense.specs.Kinds.{body_of, shape_of, direction_of, callee_of, raising_of, sense_in, all_taken};
 
+use reql_datum::Datum;
 use reql_term::{Body, Op, Params, Term, TermFields, Way};
 
 /// Whether an operator has a row with such counts and options.
@@ -39,6 +41,38 @@ pub fn function_in(term: &Term) -> Option<(&Params, &Body)>
     match term {
         Term::Func(params, body) => Some((params, body)),
         _ => None,
+    }
+}
+
+/// Of a function, whether its body is an object: one of terms, or a constant.
+#[tactic(auto, using(crate::proofs::Senses::no_shape))]
+pub fn shape(term: &Term) -> Option<bool>
+    ensures { result ≡ shape_of (sense (form_of term.now)) }
+{
+    match term {
+        Term::Func(_, body) => Some(makes_object(body.term())),
+        _ => None,
+    }
+}
+
+#[tactic(auto, using(reql_datum::proofs::Back::back))]
+fn makes_object(body: &Term) -> bool
+    ensures { result ≡ makes_object_of (form_of body.now) }
+{
+    match body {
+        Term::Lit(d) => is_object(d),
+        Term::Obj(_) => true,
+        _ => false,
+    }
+}
+
+#[tactic(auto, using(reql_datum::proofs::Back::back))]
+fn is_object(d: &Datum) -> bool
+    ensures { result ≡ makes_object_of (literal (plain d.now)) }
+{
+    match d {
+        Datum::Obj(_) => true,
+        _ => false,
     }
 }
 

@@ -12,6 +12,6 @@ pub use answers::{
     arg_of, is_true_value, is_whole, late, of_nothing, or_caught, settled, something, stops_at,
     takes_key,
 };
-pub use kinds::{callee, direction, function_in, is_fit, raising};
+pub use kinds::{callee, direction, function_in, is_fit, raising, shape};
 pub use object::object_of;
 pub use vars::{Vars, find, implicit, lookup, lookup_implicit};

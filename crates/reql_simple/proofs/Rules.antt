@@ -33,7 +33,7 @@ use Rattle.reql_simple.specs.declared.roles.Role.TheVariants as role
 -- an argument that is a plain value
 argument_is : (at : ℕ) (s : Sense) (w : World) (vars : Vars) (d : Plain) → value s w vars ≡ Ok (one d) → argument at s w vars ≡ Ok (given (one d))
 argument_is at (plain f) w vars d h = ap (λ (a : Answer Meant). a >>= λ m. Ok (given m)) h
-argument_is at (func f) w vars d h = cc
+argument_is at (func o f) w vars d h = cc
 argument_is at (sorter down s) w vars d h = ap (λ (a : Answer Meant). a >>= λ m. Ok (given m)) h
 argument_is at (raiser texted f) w vars d h = ap (λ (a : Answer Meant). a >>= λ m. Ok (given m)) h
 

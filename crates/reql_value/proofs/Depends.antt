@@ -73,14 +73,14 @@ module _ (P : ℕ → Type 0) (w v : World) (agree : Agree P w v) where
   groups_same : Applies by_groups
   groups_same f g s [] h = once_same f g s [] h
   groups_same f g s (given m ∷ gs) h = on_groups_same (λ n. at_once w.array_limit f (given n ∷ gs)) (λ n. at_once v.array_limit g (given n ∷ gs)) (λ n p. once_same f g s (given n ∷ gs) (p, h.1)) m h.0
-  groups_same f g s (callee at ∷ gs) h = once_same f g s (callee at ∷ gs) h
+  groups_same f g s (callee o at ∷ gs) h = once_same f g s (callee o at ∷ gs) h
   groups_same f g s (directed down x ∷ gs) h = once_same f g s (directed down x ∷ gs) h
   groups_same f g s (late texted a ∷ gs) h = once_same f g s (late texted a ∷ gs) h
 
   groups_in : AppliesIn by_groups
   groups_in f k [] h = once_in f k [] h
   groups_in f k (given m ∷ gs) h = on_groups_in (λ n. at_once w.array_limit f (given n ∷ gs)) (λ n p. once_in f k (given n ∷ gs) (p, h.1)) m h.0
-  groups_in f k (callee at ∷ gs) h = once_in f k (callee at ∷ gs) h
+  groups_in f k (callee o at ∷ gs) h = once_in f k (callee o at ∷ gs) h
   groups_in f k (directed down x ∷ gs) h = once_in f k (directed down x ∷ gs) h
   groups_in f k (late texted a ∷ gs) h = once_in f k (late texted a ∷ gs) h
 
@@ -88,7 +88,7 @@ module _ (P : ℕ → Type 0) (w v : World) (agree : Agree P w v) where
     -- a sense gives the same over both, and no slot but these
     abbrev pub Alike : Sense → Type 0
     Alike (plain f) = (f w us ≡ f v vs) × Each (In P) (f w us)
-    Alike (func f) = (ds : List Plain) → (f w us ds ≡ f v vs ds) × Each (In P) (f w us ds)
+    Alike (func o f) = (ds : List Plain) → (f w us ds ≡ f v vs ds) × Each (In P) (f w us ds)
     Alike (sorter down s) = Alike s
     Alike (raiser texted f) = (f w us ≡ f v vs) × Each (In P) (f w us)
 
@@ -105,7 +105,7 @@ module _ (P : ℕ → Type 0) (w v : World) (agree : Agree P w v) where
 
     pub value_alike : (s : Sense) → Alike s → AlikeAt s
     value_alike (plain f) h = h
-    value_alike (func f) h = (refl, tt)
+    value_alike (func o f) h = (refl, tt)
     value_alike (sorter down s) h = (ap (λ a. a >>= λ m. Err misplaced_order) (value_alike s h).0, then_each (In P) (value s w us) (λ m. Err misplaced_order) (λ m. tt))
     value_alike (raiser texted f) h = h
 
@@ -117,14 +117,14 @@ module _ (P : ℕ → Type 0) (w v : World) (agree : Agree P w v) where
     value_given s h = (ap (λ a. a >>= λ m. Ok (given m)) (value_alike s h).0, then_each_if (In P) (InGiven P) (value s w us) (λ m. Ok (given m)) (value_alike s h).1 (λ m p. p))
 
     pub argument_alike : GivenAlike argument
-    argument_alike at (func f) h = (refl, tt)
+    argument_alike at (func o f) h = (refl, tt)
     argument_alike at (plain f) h = value_given (plain f) h
     argument_alike at (sorter down s) h = value_given (sorter down s) h
     argument_alike at (raiser texted f) h = value_given (raiser texted f) h
 
     key_argument_alike : GivenAlike key_argument
     key_argument_alike at (sorter down s) h = (ap (λ a. a >>= λ g. Ok (directed down g)) (argument_alike at s h).0, then_each (InGiven P) (argument at s w us) (λ g. Ok (directed down g)) (λ g. tt))
-    key_argument_alike at (func f) h = argument_alike at (func f) h
+    key_argument_alike at (func o f) h = argument_alike at (func o f) h
     key_argument_alike at (plain f) h = argument_alike at (plain f) h
     key_argument_alike at (raiser texted f) h = argument_alike at (raiser texted f) h
 
@@ -161,19 +161,19 @@ module _ (P : ℕ → Type 0) (w v : World) (agree : Agree P w v) where
 
     index_option_alike : (s : Sense) → Alike s → index_option s w us ≡ index_option s v vs
     index_option_alike (sorter down s) h = ap (λ a. a >>= λ g. Ok (directed down g)) (option_alike s h)
-    index_option_alike (func f) h = option_alike (func f) h
+    index_option_alike (func o f) h = option_alike (func o f) h
     index_option_alike (plain f) h = option_alike (plain f) h
     index_option_alike (raiser texted f) h = option_alike (raiser texted f) h
 
     pub default_option_alike : (s : Sense) → Alike s → default_option s w us ≡ default_option s v vs
     default_option_alike (raiser texted f) h = ap (λ a. Ok (late texted a)) h.0
-    default_option_alike (func f) h = option_alike (func f) h
+    default_option_alike (func o f) h = option_alike (func o f) h
     default_option_alike (plain f) h = option_alike (plain f) h
     default_option_alike (sorter down s) h = option_alike (sorter down s) h
 
     -- ---- functions
     call_alike : (s : Sense) → Alike s → (ds : List Plain) → (call_of s w us ds ≡ call_of s v vs ds) × Each (In P) (call_of s w us ds)
-    call_alike (func f) h ds = h ds
+    call_alike (func o f) h ds = h ds
     call_alike (sorter down s) h ds = call_alike s h ds
     call_alike (plain f) h ds = (refl, tt)
     call_alike (raiser texted f) h ds = (refl, tt)
@@ -253,7 +253,7 @@ module _ (P : ℕ → Type 0) (w v : World) (agree : Agree P w v) where
     branch_alike (s ∷ ss) all = first_alike (branch_on ss) (branch_on_alike ss all.1) s all.0
 
     told_alike : (s : Sense) → Alike s → (d : Plain) → (told s w us d ≡ told s v vs d) × Each (In P) (told s w us d)
-    told_alike (func f) h d = h (d ∷ [])
+    told_alike (func o f) h d = h (d ∷ [])
     told_alike (plain f) h d = value_alike (plain f) h
     told_alike (sorter down s) h d = value_alike (sorter down s) h
     told_alike (raiser texted f) h d = value_alike (raiser texted f) h
@@ -398,7 +398,7 @@ module _ (P : ℕ → Type 0) (w v : World) (agree : Agree P w v) where
     fields_alike (named k f ms) scope h us vs e = (alike f scope h.0 us vs e, fields_alike ms scope h.1 us vs e)
 
   applied_same : (s : Sense) → Alike P w v agree [] [] s → (ds : List Plain) → applied s w ds ≡ applied s v ds
-  applied_same (func f) h ds = (h ds).0
+  applied_same (func o f) h ds = (h ds).0
   applied_same (plain f) h ds = h.0
   applied_same (sorter down s) h ds = (value_alike P w v agree [] [] (sorter down s) h).0
   applied_same (raiser texted f) h ds = h.0

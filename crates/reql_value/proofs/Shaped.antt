@@ -52,19 +52,19 @@ shallow_stage = mapping shallow
 -- ---- senses
 abbrev IsValue : Sense → Type 0
 IsValue (plain f) = Unit {0}
-IsValue (func f) = ⊥
+IsValue (func o f) = ⊥
 IsValue (sorter down s) = ⊥
 IsValue (raiser texted f) = ⊥
 
 argument_is : (s : Sense) → IsValue s → (w : World) → argument 0 s w [] ≡ (value s w [] >>= λ m. Ok (given m))
 argument_is (plain f) h w = refl
-argument_is (func f) h w = absurd h
+argument_is (func o f) h w = absurd h
 argument_is (sorter down s) h w = absurd h
 argument_is (raiser texted f) h w = absurd h
 
 no_call : (s : Sense) → IsValue s → (w : World) (ds : List Plain) → call_of s w [] ds ≡ Err misplaced
 no_call (plain f) h w ds = refl
-no_call (func f) h w ds = absurd h
+no_call (func o f) h w ds = absurd h
 no_call (sorter down s) h w ds = absurd h
 no_call (raiser texted f) h w ds = absurd h
 

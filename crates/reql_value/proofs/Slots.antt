@@ -104,13 +104,13 @@ module _ (P : ℕ → Type 0) (w v : World) (agree : Agree P w v) where
   -- ---- arguments
   meant_in : (g : Given) → InGiven P g → In P (meant_of g)
   meant_in (given m) h = h
-  meant_in (callee at) h = tt
+  meant_in (callee o at) h = tt
   meant_in (directed down g) h = tt
   meant_in (late texted a) h = tt
 
   answer_in : (calls : Calls) → CallsIn P calls → (g : Given) → InGiven P g → (ds : List Plain) → Each (In P) (answer calls g ds)
   answer_in calls k (given m) h ds = h
-  answer_in calls k (callee at) h ds = k at ds
+  answer_in calls k (callee o at) h ds = k at ds
   answer_in calls k (directed down g) h ds = tt
   answer_in calls k (late texted a) h ds = tt
 

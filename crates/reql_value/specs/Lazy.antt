@@ -53,7 +53,7 @@ branch (s ∷ ss) w vars = by_first (branch_on ss) s w vars
 
 -- the second argument, a function getting what is told of the first
 abbrev pub told : Sense → World → Vars → Plain → Answer Meant
-told (func f) w vars d = f w vars (d ∷ [])
+told (func makes_object f) w vars d = f w vars (d ∷ [])
 told s w vars d = value s w vars
 
 -- an ERROR without text ends it with what was there

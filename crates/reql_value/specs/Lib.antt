@@ -2,6 +2,7 @@ pub mod World
 pub mod Meant
 pub mod Wanted
 pub mod Sequenced
+pub mod Matching
 pub mod Called
 pub mod Scalars
 pub mod Coercions

@@ -2,7 +2,7 @@
 use Rattle.std.specs.Prelude.{ℕ, List, [], ◌∷◌, length, nat_eq, Bool, true, false, not, ◌&&◌, if◌then◌else◌, Ok, Err}
 use Rattle.std.specs.List.{list_all}
 use Rattle.reql_datum.specs.Answer.{Answer, ◌>>=◌, no_text}
-use Rattle.reql_datum.specs.Plain.{Plain}
+use Rattle.reql_datum.specs.Plain.{Plain, object}
 use Rattle.reql_term.specs.Form.{Form, literal, several, keyed, variable, implicit, function, slot, operation, Forms, no_forms, form, NamedForms, no_named, named}
 use Rattle.reql_term.specs.Table.{fits, takes, way_of}
 use Rattle.reql_term.specs.declared.op.Op.{Op}
@@ -68,6 +68,12 @@ called ids body w vars ds = do
   inner ← bind ids ds vars
   senses.value body w inner
 
+-- an object of terms, or a constant one, as the body of a function
+abbrev pub makes_object : Form → Bool
+makes_object (literal (object ms)) = true
+makes_object (keyed ms) = true
+makes_object f = false
+
 -- what a term denotes
 abbrev mutual
   pub sense : Form → Sense
@@ -76,7 +82,7 @@ abbrev mutual
   sense (keyed ms) = plain (make_object (named_senses ms))
   sense (variable id) = plain (bound (variable_at id))
   sense implicit = plain (bound implicit_at)
-  sense (function ids body) = func (called ids (sense body))
+  sense (function ids body) = func (makes_object body) (called ids (sense body))
   sense (slot n) = plain (table_of n)
   sense (operation op fs ms) = sense_of op (form_senses fs) (named_senses ms)
 
@@ -99,7 +105,7 @@ value f w vars = settled (senses.value (sense f) w vars)
 
 -- what a term gives as a function of these values, outside of any request; a term that is no function is constant
 abbrev pub applied : Sense → World → List Plain → Answer Meant
-applied (func f) w ds = f w [] ds
+applied (func shaped f) w ds = f w [] ds
 applied s w ds = senses.value s w []
 
 abbrev pub function_value : Form → World → List Plain → Answer Meant

@@ -38,10 +38,10 @@ pub data Meant : Type 0 where
   database : Bytes → Meant
   callable : Meant
 
--- what an argument gives: a value, the function that stands at this place, a key with its direction, or an ERROR, with a text or without one, that is raised only where it is needed
+-- what an argument gives: a value, the function that stands at this place, by whether its body is an object, a key with its direction, or an ERROR, with a text or without one, that is raised only where it is needed
 pub data Given : Type 0 where
   given : Meant → Given
-  callee : ℕ → Given
+  callee : Bool → ℕ → Given
   directed : Bool → Given → Given
   late : Bool → Answer Meant → Given
 
@@ -93,6 +93,6 @@ is_nothing m = false
 -- in a value position a function is a value of its own type
 abbrev pub meant_of : Given → Meant
 meant_of (given m) = m
-meant_of (callee at) = callable
+meant_of (callee makes_object at) = callable
 meant_of (directed down g) = callable
 meant_of (late texted a) = callable

@@ -8,23 +8,23 @@ use Rattle.reql_value.specs.Meant.{Meant, callable, Given, given, callee, direct
 use Rattle.reql_value.specs.Sequenced.{by_groups, at_once}
 use Rattle.reql_value.specs.World.{World, Vars}
 
--- a value; a function; ASC or DESC of a key, which only ORDER_BY takes; an ERROR, with a text or without one, which FILTER's `default` takes unraised
+-- a value; a function, by whether its body is an object; ASC or DESC of a key, which only ORDER_BY takes; an ERROR, with a text or without one, which FILTER's `default` takes unraised
 pub data Sense : Type 0 where
   plain : (World → Vars → Answer Meant) → Sense
-  func : (World → Vars → List Plain → Answer Meant) → Sense
+  func : Bool → (World → Vars → List Plain → Answer Meant) → Sense
   sorter : Bool → Sense → Sense
   raiser : Bool → (World → Vars → Answer Meant) → Sense
 
 -- in a value position
 abbrev pub value : Sense → World → Vars → Answer Meant
 value (plain f) w vars = f w vars
-value (func f) w vars = Ok callable
+value (func makes_object f) w vars = Ok callable
 value (sorter down s) w vars = value s w vars >>= λ m. Err misplaced_order
 value (raiser texted f) w vars = f w vars
 
 -- as the argument at a place
 abbrev pub argument : ℕ → Sense → World → Vars → Answer Given
-argument at (func f) w vars = Ok (callee at)
+argument at (func makes_object f) w vars = Ok (callee makes_object at)
 argument at s w vars = value s w vars >>= λ m. Ok (given m)
 
 -- as a key of ORDER_BY
@@ -60,7 +60,7 @@ options take (o ∷ os) w vars = do
 
 -- a function called; nothing else is
 abbrev pub call_of : Sense → World → Vars → List Plain → Answer Meant
-call_of (func f) w vars ds = f w vars ds
+call_of (func makes_object f) w vars ds = f w vars ds
 call_of (sorter down s) w vars ds = call_of s w vars ds
 call_of s w vars ds = Err misplaced
 

@@ -27,6 +27,25 @@ sequences =
     (with op.Filter (literal (a (o ((codes "a", n 1) ∷ []) ∷ o [] ∷ [])) ∷ fun (call op.Gt (field "a" ∷ num 0 ∷ [])) ∷ []) ((codes "default", call op.Error (name "gone" ∷ [])) ∷ []), Err (user (codes "gone"))) ∷
     (with op.Filter (literal (a (o ((codes "a", n 1) ∷ []) ∷ o [] ∷ [])) ∷ fun (call op.Gt (field "a" ∷ num 0 ∷ [])) ∷ []) ((codes "default", call op.Error (call op.Error [] ∷ [])) ∷ []), Err (query_logic (codes "Empty ERROR term outside a default block."))) ∷
     (call op.Default (literal null ∷ with op.Filter (literal (a (o ((codes "a", n 1) ∷ []) ∷ o [] ∷ [])) ∷ fun (call op.Gt (field "a" ∷ num 0 ∷ [])) ∷ []) ((codes "default", call op.Error (call op.Error [] ∷ [])) ∷ []) ∷ []), Ok (one null)) ∷
+    (call op.Filter (literal (a (o ((codes "a", n 1) ∷ []) ∷ o [] ∷ [])) ∷ literal (o ((codes "a", n 1) ∷ [])) ∷ []), Ok (one (a (o ((codes "a", n 1) ∷ []) ∷ [])))) ∷
+    (with op.Filter (literal (a (o ((codes "a", n 1) ∷ []) ∷ o [] ∷ [])) ∷ literal (o ((codes "a", n 1) ∷ [])) ∷ []) ((codes "default", literal (boolean true)) ∷ []), Ok (one (a (o ((codes "a", n 1) ∷ []) ∷ o [] ∷ [])))) ∷
+    (with op.Filter (literal (a (o ((codes "a", n 1) ∷ []) ∷ o [] ∷ [])) ∷ literal (o ((codes "a", n 1) ∷ [])) ∷ []) ((codes "default", literal (boolean false)) ∷ []), Ok (one (a (o ((codes "a", n 1) ∷ []) ∷ [])))) ∷
+    (with op.Filter (literal (a (o ((codes "a", n 1) ∷ []) ∷ o [] ∷ [])) ∷ literal (o ((codes "a", n 1) ∷ [])) ∷ []) ((codes "default", call op.Error []) ∷ []), Err (non_existence (codes "No attribute `a` in object."))) ∷
+    (with op.Filter (literal (a (o ((codes "a", n 1) ∷ []) ∷ o [] ∷ [])) ∷ literal (o ((codes "a", n 1) ∷ [])) ∷ []) ((codes "default", call op.Error (name "gone" ∷ [])) ∷ []), Err (user (codes "gone"))) ∷
+    (with op.Filter (literal (a (o ((codes "a", o ((codes "b", n 1) ∷ [])) ∷ []) ∷ o ((codes "a", o []) ∷ []) ∷ o ((codes "a", n 1) ∷ []) ∷ n 3 ∷ [])) ∷ literal (o ((codes "a", o ((codes "b", n 1) ∷ [])) ∷ [])) ∷ []) ((codes "default", literal (boolean true)) ∷ []), Ok (one (a (o ((codes "a", o ((codes "b", n 1) ∷ [])) ∷ []) ∷ o ((codes "a", o []) ∷ []) ∷ [])))) ∷
+    (with op.Filter (literal (a (o ((codes "a", o ((codes "b", n 1) ∷ [])) ∷ []) ∷ o ((codes "a", o []) ∷ []) ∷ [])) ∷ literal (o ((codes "a", o ((codes "b", n 1) ∷ [])) ∷ [])) ∷ []) ((codes "default", call op.Error []) ∷ []), Err (non_existence (codes "No attribute `b` in object."))) ∷
+    (with op.Filter (literal (a (o ((codes "a", n 2) ∷ []) ∷ o ((codes "a", n 1) ∷ []) ∷ o ((codes "b", n 1) ∷ []) ∷ o ((codes "b", n 2) ∷ []) ∷ [])) ∷ literal (o ((codes "a", n 1) ∷ (codes "b", n 1) ∷ [])) ∷ []) ((codes "default", literal (boolean true)) ∷ []), Ok (one (a (o ((codes "a", n 1) ∷ []) ∷ o ((codes "b", n 1) ∷ []) ∷ o ((codes "b", n 2) ∷ []) ∷ [])))) ∷
+    (call op.Filter (literal (a (o ((codes "a", n 2) ∷ []) ∷ o ((codes "a", n 1) ∷ []) ∷ [])) ∷ literal (o []) ∷ []), Ok (one (a (o ((codes "a", n 2) ∷ []) ∷ o ((codes "a", n 1) ∷ []) ∷ [])))) ∷
+    (call op.Filter (literal (a (n 3 ∷ o ((codes "a", n 1) ∷ []) ∷ [])) ∷ literal (o []) ∷ []), Ok (one (a (o ((codes "a", n 1) ∷ []) ∷ [])))) ∷
+    (call op.Filter (literal (a (o ((codes "a", n 1) ∷ (codes "b", n 1) ∷ []) ∷ o ((codes "a", n 1) ∷ (codes "b", n 2) ∷ []) ∷ o ((codes "a", n 1) ∷ []) ∷ [])) ∷ fun (members ((codes "a", field "b") ∷ [])) ∷ []), Ok (one (a (o ((codes "a", n 1) ∷ (codes "b", n 1) ∷ []) ∷ [])))) ∷
+    (with op.Filter (literal (a (o ((codes "a", n 1) ∷ (codes "b", n 1) ∷ []) ∷ o ((codes "a", n 1) ∷ (codes "b", n 2) ∷ []) ∷ o ((codes "a", n 1) ∷ []) ∷ [])) ∷ fun (members ((codes "a", field "b") ∷ [])) ∷ []) ((codes "default", literal (boolean true)) ∷ []), Ok (one (a (o ((codes "a", n 1) ∷ (codes "b", n 1) ∷ []) ∷ o ((codes "a", n 1) ∷ []) ∷ [])))) ∷
+    (with op.Filter (literal (a (o ((codes "b", n 1) ∷ []) ∷ o ((codes "a", n 1) ∷ (codes "b", n 2) ∷ []) ∷ [])) ∷ fun (members ((codes "a", field "b") ∷ [])) ∷ []) ((codes "default", literal (boolean true)) ∷ []), Ok (one (a (o ((codes "b", n 1) ∷ []) ∷ [])))) ∷
+    (with op.Filter (literal (a (o ((codes "a", o ((codes "b", n 1) ∷ [])) ∷ (codes "c", n 1) ∷ []) ∷ o ((codes "a", o ((codes "b", n 1) ∷ [])) ∷ (codes "c", n 2) ∷ []) ∷ o ((codes "a", o []) ∷ (codes "c", n 1) ∷ []) ∷ o ((codes "a", n 1) ∷ (codes "c", n 1) ∷ []) ∷ [])) ∷ fun (members ((codes "a", members ((codes "b", field "c") ∷ [])) ∷ [])) ∷ []) ((codes "default", literal (boolean true)) ∷ []), Ok (one (a (o ((codes "a", o ((codes "b", n 1) ∷ [])) ∷ (codes "c", n 1) ∷ []) ∷ o ((codes "a", o []) ∷ (codes "c", n 1) ∷ []) ∷ [])))) ∷
+    (call op.Filter (literal (a (o ((codes "a", n 1) ∷ []) ∷ o ((codes "a", n 2) ∷ []) ∷ [])) ∷ fun (literal (o ((codes "a", n 1) ∷ []))) ∷ []), Ok (one (a (o ((codes "a", n 1) ∷ []) ∷ [])))) ∷
+    (call op.Filter (literal (a (o ((codes "a", n 1) ∷ []) ∷ o [] ∷ [])) ∷ fun var ∷ []), Ok (one (a (o ((codes "a", n 1) ∷ []) ∷ o [] ∷ [])))) ∷
+    (call op.Filter (literal (a (o ((codes "a", n 1) ∷ []) ∷ o ((codes "a", n 2) ∷ []) ∷ [])) ∷ fun (call op.Merge (var ∷ members ((codes "a", num 2) ∷ []) ∷ [])) ∷ []), Ok (one (a (o ((codes "a", n 1) ∷ []) ∷ o ((codes "a", n 2) ∷ []) ∷ [])))) ∷
+    (call op.Filter (literal (a (o ((codes "a", n 1) ∷ []) ∷ o [] ∷ [])) ∷ members ((codes "a", call op.Literal (num 1 ∷ [])) ∷ []) ∷ []), Ok (one (a []))) ∷
+    (call op.Filter (literal (a (o ((codes "a", n 1) ∷ []) ∷ o [] ∷ [])) ∷ call op.Literal (literal (o ((codes "a", n 2) ∷ [])) ∷ []) ∷ []), Ok (one (a (o ((codes "a", n 1) ∷ []) ∷ o [] ∷ [])))) ∷
     (call op.ConcatMap (array (num 1 ∷ num 2 ∷ []) ∷ fun (call op.Range (var ∷ [])) ∷ []), Ok (one (a (n 0 ∷ n 0 ∷ n 1 ∷ [])))) ∷
     (call op.ConcatMap (call op.Range (num 3 ∷ []) ∷ fun (array (var ∷ var ∷ [])) ∷ []), Ok (stream (n 0 ∷ n 0 ∷ n 1 ∷ n 1 ∷ n 2 ∷ n 2 ∷ []))) ∷
     (call op.OrderBy (array (num 3 ∷ num 1 ∷ num 2 ∷ []) ∷ fun var ∷ []), Ok (one (a (n 1 ∷ n 2 ∷ n 3 ∷ [])))) ∷

@@ -65,6 +65,10 @@ lacking_rows =
     (with op.Filter (slot 0 ∷ fun (call op.Gt (field "n" ∷ num 3 ∷ [])) ∷ []) ((codes "default", literal (boolean true)) ∷ []), Ok (selection 0 some_rows (o ((codes "id", n 1) ∷ (codes "n", n 5) ∷ []) ∷ o ((codes "id", n 2) ∷ []) ∷ []))) ∷
     (with op.Filter (slot 0 ∷ fun (call op.Gt (field "n" ∷ num 3 ∷ [])) ∷ []) ((codes "default", call op.Error []) ∷ []), Err (non_existence (codes "No attribute `n` in object."))) ∷
     (with op.Filter (slot 0 ∷ fun (call op.Gt (field "n" ∷ num 3 ∷ [])) ∷ []) ((codes "default", call op.Error (name "x" ∷ [])) ∷ []), Err (user (codes "x"))) ∷
+    (call op.Filter (slot 0 ∷ members ((codes "n", num 5) ∷ []) ∷ []), Ok (selection 0 some_rows (o ((codes "id", n 1) ∷ (codes "n", n 5) ∷ []) ∷ []))) ∷
+    (with op.Filter (slot 0 ∷ members ((codes "n", num 4) ∷ []) ∷ []) ((codes "default", literal (boolean true)) ∷ []), Ok (selection 0 some_rows (o ((codes "id", n 2) ∷ []) ∷ []))) ∷
+    (with op.Filter (slot 0 ∷ fun (members ((codes "id", num 2) ∷ (codes "n", field "id") ∷ [])) ∷ []) ((codes "default", call op.Error []) ∷ []), Err (non_existence (codes "No attribute `n` in object."))) ∷
+    (call op.Filter (slot 0 ∷ fun (members ((codes "n", field "id") ∷ [])) ∷ []), Ok (selection 0 some_rows [])) ∷
     []
 
 -- the entries of a document

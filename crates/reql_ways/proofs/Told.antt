@@ -14,7 +14,7 @@ use Rattle.reql_sense.specs.Kinds.{given_to}
 
 told_is : (s : Sense) (w : World) (vars : Vars) (d : Plain) → told s w vars d ≡ given_to s w vars (d ∷ [])
 told_is (plain f) w vars d = refl
-told_is (func f) w vars d = refl
+told_is (func o f) w vars d = refl
 told_is (sorter down s) w vars d = refl
 told_is (raiser texted f) w vars d = refl
 

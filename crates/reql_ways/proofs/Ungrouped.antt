@@ -27,7 +27,7 @@ alone : (op : Kind) (w : World) (calls : Calls) (opts : Options) (gs : List Give
 unfolding in_groups ruled
 alone op w calls opts [] h = refl
 alone op w calls opts (given m ∷ gs) h = alone_first (λ n. at_once w.array_limit (λ hs. kind_rule op w calls hs opts) (given n ∷ gs)) m h
-alone op w calls opts (callee at ∷ gs) h = refl
+alone op w calls opts (callee o at ∷ gs) h = refl
 alone op w calls opts (directed down g ∷ gs) h = refl
 alone op w calls opts (late texted a ∷ gs) h = refl
 

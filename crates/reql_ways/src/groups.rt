@@ -16,7 +16,7 @@ ghost use Rattle.reql_ways.specs.Ruled.{ruled, ruled_on, in_groups, is_groups as
 
 use reql_apply::{Kind, apply, grouped_value};
 use reql_datum::{Datum, Fault};
-use reql_operand::{Arg, Choice, Group, Value, World, into_datum, sized};
+use reql_operand::{Arg, Callee, Choice, Group, Value, World, into_datum, sized};
 use reql_sense::is_whole;
 use reql_term::{TableView, Way};
 use std::alloc::Global;
@@ -84,7 +84,11 @@ fn take_groups(args: &mut [Arg]) -> Vec<Group>
         ≡ given (grouped (map group result.items)) ∷ drop 1 (all_shown w args.new) }
     ensures some { 0 < length args.new }
 {
-    groups_of(mem::replace(&mut args[0], Arg::Function(0)))
+    let none = Arg::Function(Callee {
+        at: 0,
+        makes_object: false,
+    });
+    groups_of(mem::replace(&mut args[0], none))
 }
 
 fn put_first(args: &mut [Arg], first: Arg)

@@ -9,8 +9,8 @@ ghost use Rattle.reql_operand.specs.Seen.{key, all_shown};
 ghost use Rattle.reql_ways.specs.Lent.{Take, Takes};
 
 use reql_datum::Fault;
-use reql_operand::{Arg, Key};
-use reql_sense::function_in;
+use reql_operand::{Arg, Callee, Key};
+use reql_sense::shape;
 use reql_term::Term;
 use std::alloc::Global;
 
@@ -22,8 +22,8 @@ pub fn function_at(term: &Term, at: usize) -> Option<Key>
         (argument at (sense (form_of term.now)) w vars ≡ option (sense (form_of term.now)) w vars)
         (λ k. argument at (sense (form_of term.now)) w vars ≡ Ok (key w k)) }
 {
-    match function_in(term) {
-        Some(_) => Some(Key::Function(at)),
+    match shape(term) {
+        Some(makes_object) => Some(Key::Function(Callee { at, makes_object })),
         None => None,
     }
 }
