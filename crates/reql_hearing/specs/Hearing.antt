@@ -30,6 +30,7 @@ abbrev pub Hears : Tape → Tape → ℕ → Listening → Listening → List �
 Hears old new room g h held heard.Idle = IsIdle old new × (h ≡ g) × (held ≡ [])
 Hears old new room g h held heard.More = (piece : List ℕ) × Came old new room piece × (h.heard ≡ g.heard ++ piece) × Greets g.key (g.heard ++ piece) greeting.More × (held ≡ [])
 Hears old new room g h held heard.Accepted = (piece : List ℕ) × (used : ℕ) × Came old new room piece × Greets g.key (g.heard ++ piece) (greeting.Accepted used) × (drop used (g.heard ++ piece) ≡ held)
+Hears old new room g h held heard.Called = (piece : List ℕ) × Came old new room piece × Greets g.key (g.heard ++ piece) (greeting.Login 4) × (drop 4 (g.heard ++ piece) ≡ held)
 Hears old new room g h held (heard.Refused fault) = (piece : List ℕ) × Came old new room piece × Greets g.key (g.heard ++ piece) (greeting.Refused fault)
 Hears old new room g h held heard.Lost = (piece : List ℕ) × Came old new room piece
 Hears old new room g h held heard.Over = IsOver old new × (h ≡ g) × (held ≡ [])
