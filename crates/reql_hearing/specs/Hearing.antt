@@ -1,9 +1,8 @@
 -- What one receive does, before and after the greeting was whole.
-use Rattle.std.specs.Prelude.{◌≡◌, ◌≤◌, ℕ, List, [], ◌++◌, length, drop, Bool, true}
+use Rattle.std.specs.Prelude.{◌≡◌, ◌≤◌, ℕ, List, [], ◌++◌, length, drop, true}
 use Rattle.reql_outside.specs.Tape.{Tape, Moves, recv_failed}
 use Rattle.reql_wire.specs.Greeting.{Listening, Greets}
 use Rattle.reql_wire.specs.declared.greeter.Greeting.TheVariants as greeting
-use Rattle.reql_wire.specs.declared.greeter.GreetFault.{GreetFault}
 use Rattle.reql_hearing.specs.declared.greeting.Heard.{Heard}
 use Rattle.reql_hearing.specs.declared.greeting.Heard.TheVariants as heard
 use Rattle.reql_hearing.specs.declared.receiving.Received.{Received}

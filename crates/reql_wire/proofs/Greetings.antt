@@ -542,9 +542,9 @@ calls_in key before piece n used h e =
       taken = omega arith;
       within = omega arith;
       behind = λ more.
-      let short = call_after key before piece more greets in
-      let whole : length before + used ≡ 4 = omega arith in
-      subst (λ k. drop k (before ++ piece) ≡ drop used piece) whole (drop-append-add before piece used);
+          let short = call_after key before piece more greets in
+          let whole : length before + used ≡ 4 = omega arith in
+          subst (λ k. drop k (before ++ piece) ≡ drop used piece) whole (drop-append-add before piece used);
     }
 
 pub login_answer : (key heard piece own now : List ℕ) (n used : ℕ) → own ≡ key → now ≡ kept (heard ++ piece) → Greets own now (greeting.Login n) → used ≡ n - length heard → Answers key heard piece (greeting.Login used)
