@@ -1,5 +1,5 @@
 -- A valid input is handled to its end.
-use Rattle.std.proofs.Common.{◌≡◌, ◌<◌, ◌+◌, ◌^◌, ℕ, true, List, [], ◌∷◌, ◌++◌, length, Option, refl, sym, ap, subst, ◌∙◌, inl, inr, arith, append_assoc, append-nil, length-append}
+use Rattle.std.proofs.Common.{◌≡◌, ◌<◌, ◌+◌, ◌^◌, ℕ, true, List, [], ◌∷◌, ◌++◌, length, drop, Option, refl, sym, ap, subst, ◌∙◌, inl, inr, arith, append_assoc, append-nil, length-append}
 use Rattle.std.proofs.lemmas.List.{length-take-le, drop_at}
 use Rattle.std.specs.List.{AllByRecursion}
 use Rattle.reql_wire.specs.Frames.{Fits, NoFrame, Over, BeginsWith, spellings}
@@ -9,6 +9,7 @@ use Rattle.reql_wire.specs.declared.greeter.GreetFault.{GreetFault}
 use Rattle.reql_wire.specs.declared.greeter.Greeting.TheVariants as greeting
 use Rattle.reql_wire.proofs.Fronts.{first_of, over_no_frame, over_stands}
 use Rattle.reql_wire.proofs.Greetings.{alone, stands}
+use Rattle.reql_login.specs.Messages.{hello}
 use Rattle.reql_login.specs.Turns.{Gate, turn_of}
 use Rattle.reql_login.specs.Turns as gates
 use Rattle.reql_scram.specs.declared.fault.LoginFault.{LoginFault}
@@ -65,6 +66,12 @@ login_not_accepted key bytes used p q = let e : greeting.Login 4 ≡ greeting.Ac
 is_more : (key bytes : List ℕ) → bytes ≡ [] → Greets key bytes greeting.More
 is_more key bytes e = subst (λ z. Greets key z greeting.More) (sym e) (nothing_is_more key)
 
+says_not_refuses : (a b : List ℕ) (next : Gate) (f : LoginFault) → gates.Says a b next ≡ gates.Refuses f → ⊥
+says_not_refuses a b next f e = cc
+
+refuses_not_waits : (f : LoginFault) → gates.Refuses f ≡ gates.Waits → ⊥
+refuses_not_waits f e = cc
+
 -- frames
 none_left : (limit : ℕ) (left : List Frame) (held : List ℕ) → AllByRecursion (Fits limit) left → held ≡ spellings left → NoFrame limit held → left ≡ []
 none_left limit [] held p e n = refl
@@ -111,17 +118,14 @@ module _ {PL : Type 0} (k : Talk PL) where
   never_refused rs held frames f g (inr (inr v)) = login_not_refused k.key held f (logs_in rs held frames v) g
 
   -- a version is never refused
+  called_not_refused : (held : List ℕ) (why : LoginFault) → turn_of (account k) gates.Called held ≡ gates.Refuses why → ⊥
+  called_not_refused held why e = says_not_refuses hello (drop 4 held) gates.Greeted why (sym (called_says (account k) held) ∙ e)
+
   never_turned : (held : List ℕ) (why : LoginFault) → InLogin k Waiting held (gates.Refuses why) → ⊥
   never_turned held why x = elim x.at [
     | inl w ↦ called_not_refused held why (ap (λ g. turn_of (account k) g held) (sym w.2) ∙ x.turn)
     | inr w ↦ at_not_waiting x.gate (sym w)
   ]
-    where
-      called_not_refused : (held : List ℕ) (why : LoginFault) → turn_of (account k) gates.Called held ≡ gates.Refuses why → ⊥
-      called_not_refused held why e = says_not_refuses _ _ _ _ (sym (called_says (account k) held) ∙ e)
-        where
-          says_not_refuses : (a b : List ℕ) (next : Gate) (f : LoginFault) → gates.Says a b next ≡ gates.Refuses f → ⊥
-          says_not_refuses a b next f e = cc
 
   waiting : (rs : List (Option (List ℕ))) (end : End) (held more : List ℕ) (frames : List Frame) → (IsLast end → more ≡ []) → LeftAs k end Waiting held → IsValid k rs (held ++ more) frames → Comes more end frames
   waiting rs ends.Closed held more frames o l v = (waiting_all rs held more frames (o tt) l.1 v).0
@@ -144,10 +148,7 @@ module _ {PL : Type 0} (k : Talk PL) where
   waits_on gate held more none w f = subst IsFine (ap (turn_of (account k) gate) (all_held held more none) ∙ w) f
 
   refused_then : (gate : Gate) (held more : List ℕ) (why : LoginFault) → IsPast gate → turn_of (account k) gate held ≡ gates.Refuses why → Stops gate held more → ⊥
-  refused_then gate held more why past e f = subst IsFine (turn_stands (account k) gate held more past (λ w. not_waits (sym e ∙ w)) ∙ ap (with_more more) e) f
-    where
-      not_waits : gates.Refuses why ≡ gates.Waits → ⊥
-      not_waits q = cc
+  refused_then gate held more why past e f = subst IsFine (turn_stands (account k) gate held more past (λ w. refuses_not_waits why (sym e ∙ w)) ∙ ap (with_more more) e) f
 
   abbrev gate_in : Stage → Gate
   gate_in (At gate) = gate

@@ -9,16 +9,16 @@ pub mod Feeding
 pub mod Fronts
 pub mod Going
 pub mod Idling
-mod Messages
+pub mod Messages
 pub mod Opened
 pub mod Orders
 pub mod Owed
-mod Passing
+pub mod Passing
 pub mod Placed
 pub mod Printed
 pub mod Overs
 pub mod Rests
-mod Rolling
+pub mod Rolling
 pub mod Sendings
 pub mod Shelves
 pub mod Staying

@@ -40,6 +40,9 @@ abbrev IsOn : Stage → Type 0
 IsOn (At gate) = IsPast gate
 IsOn other = Unit {0}
 
+says_not_admits : (a b c d : List ℕ) (next : Gate) → gates.Says a b next ≡ gates.Admits c d → ⊥
+says_not_admits a b c d next e = cc
+
 module _ {PL : Type 0} (k : Talk PL) where
   says_more : (gate : Gate) (used more said : List ℕ) (next : Gate) → IsPast gate → turn_of (account k) gate used ≡ gates.Says said [] next → turn_of (account k) gate (used ++ more) ≡ gates.Says said more next
   says_more gate used more said next p e = turn_stands (account k) gate used more p (λ w. let f : gates.Says said [] next ≡ gates.Waits = sym e ∙ w in cc) ∙ ap (with_more more) e
@@ -95,9 +98,6 @@ module _ {PL : Type 0} (k : Talk PL) where
       let f : used1 ++ (input1 ++ x) ≡ used2 ++ tail = sym (append_assoc used1 input1 x) ∙ e in
       let one : gates.Says said1 (input1 ++ x) next1 ≡ gates.Admits said2 tail = sym (says_more at1 used1 (input1 ++ x) said1 next1 on t1) ∙ ap (turn_of (account k) at1) f ∙ admits_more at1 used2 tail said2 on of in
       absurd (says_not_admits said1 (input1 ++ x) said2 tail next1 one)
-    where
-      says_not_admits : (a b c d : List ℕ) (next : Gate) → gates.Says a b next ≡ gates.Admits c d → ⊥
-      says_not_admits a b c d next e = cc
   along a b bytes rs (logins.admits at1 used1 said1 t1) c z login own (logins.here stage) same over on x tail p others e its = absurd (at_not_over at1 (sym same ∙ over))
   along a b bytes rs (logins.admits at1 used1 said1 t1) c z login own (logins.calls own2 input2 rs2 stage2 g2 n2 p2) same over on x tail p others e its = absurd (at_not_waiting at1 (sym same))
   along a b bytes rs (logins.admits at1 used1 said1 t1) c z login own (logins.rolls at2 held2 roll2 rs2 input2 stage2 t2 p2) same over on x tail p others e its =
@@ -107,9 +107,6 @@ module _ {PL : Type 0} (k : Talk PL) where
       let f : used1 ++ x ≡ used2 ++ (input2 ++ tail) = e ∙ append_assoc used2 input2 tail in
       let one : gates.Says said2 (input2 ++ tail) next2 ≡ gates.Admits said1 x = sym (says_more at1 used2 (input2 ++ tail) said2 next2 on of) ∙ ap (turn_of (account k) at1) (sym f) ∙ admits_more at1 used1 x said1 on t1 in
       absurd (says_not_admits said2 (input2 ++ tail) said1 x next2 one)
-    where
-      says_not_admits : (a b c d : List ℕ) (next : Gate) → gates.Says a b next ≡ gates.Admits c d → ⊥
-      says_not_admits a b c d next e = cc
   along a b bytes rs (logins.admits at1 used1 said1 t1) c z login own (logins.admits at2 used2 said2 t2) same over on x tail p others e its =
       let of : turn_of (account k) at1 used2 ≡ gates.Admits said2 [] = ap (λ y. turn_of (account k) (gate_in y) used2) (sym same) ∙ t2 in
       let one : gates.Admits said1 x ≡ gates.Admits said2 tail = sym (admits_more at1 used1 x said1 on t1) ∙ ap (turn_of (account k) at1) e ∙ admits_more at1 used2 tail said2 on of in
