@@ -121,10 +121,10 @@ message_stands held more n = elim (cases_lt (message_len held) (length (looked_a
       let longer : length (looked_at (held ++ more)) ≡ length (looked_at held) + length z.0 = ap length z.1 ∙ length-append (looked_at held) z.0 in
       let within : message_len held + 1 ≤ length held = omega (arith, l, (looked_fits held).1) in
       whole_by (held ++ more) (omega (arith, same, longer, l))
-          ∙ ap (λ k. Whole (take k (held ++ more)) (drop (k + 1) (held ++ more))) same
-          ∙ ap (λ t. Whole t (drop (message_len held + 1) (held ++ more))) (take-append-le (message_len held) held more (omega (arith, within)))
-          ∙ ap (λ t. Whole (take (message_len held) held) t) (drop-append-le (message_len held + 1) held more within)
-          ∙ ap (and_more more) (sym (whole_by held l))
+      ∙ ap (λ k. Whole (take k (held ++ more)) (drop (k + 1) (held ++ more))) same
+      ∙ ap (λ t. Whole t (drop (message_len held + 1) (held ++ more))) (take-append-le (message_len held) held more (omega (arith, within)))
+      ∙ ap (λ t. Whole (take (message_len held) held) t) (drop-append-le (message_len held + 1) held more within)
+      ∙ ap (and_more more) (sym (whole_by held l))
   | inr g ↦ elim (cases_lt (length held) 2048) [
     | inl l ↦ absurd (n (more_by held g l))
     | inr m ↦
@@ -147,10 +147,10 @@ message_alone used behind message e =
     let same : prefix_len not_zero used ≡ n = prefix_within not_zero used z.0 (omega (arith, ap (prefix_len not_zero) all, size)) ∙ sym (ap (prefix_len not_zero) all) in
     let len : message_len used ≡ n = ap (prefix_len not_zero) few ∙ same in
     whole_by used (omega (arith, len, ap length few, size))
-        ∙ ap (λ k. Whole (take k used) (drop (k + 1) used)) len
-        ∙ ap (λ k. Whole (take n used) (drop k used)) (sym size)
-        ∙ ap (λ t. Whole (take n used) t) (drop-length used)
-        ∙ ap (λ t. Whole t []) (sym (take-append-le n used behind (omega (arith, size))) ∙ sym w.text)
+    ∙ ap (λ k. Whole (take k used) (drop (k + 1) used)) len
+    ∙ ap (λ k. Whole (take n used) (drop k used)) (sym size)
+    ∙ ap (λ t. Whole (take n used) t) (drop-length used)
+    ∙ ap (λ t. Whole t []) (sym (take-append-le n used behind (omega (arith, size))) ∙ sym w.text)
 
 -- ---- the turns of a login whose version was answered
 abbrev pub IsPast : Gate → Type 0
