@@ -26,7 +26,7 @@ module _ {PL : Type 0} where
   busy : {A : Type 0} (m : Mach PL) (back : Option (List ℕ)) (task : Task PL) → m.doing ≡ Busy back task → IsIdle m.books.waiting m.doing → A
   busy m back task d h = absurd (subst (IsIdle m.books.waiting) d h)
 
-  none_visited : (waiting : List ℕ) → waiting ≡ [] → IsIdle [] (Visits {PL = PL} waiting)
+  none_visited : (waiting : List ℕ) → waiting ≡ [] → IsIdle {PL = PL} [] (Visits waiting)
   none_visited [] e = refl
   none_visited (token ∷ left) e = cc
 
