@@ -26,9 +26,9 @@ module _ {PL : Type 0} where
   busy : {A : Type 0} (m : Mach PL) (back : Option (List ℕ)) (task : Task PL) → m.doing ≡ Busy back task → IsIdle m.books.waiting m.doing → A
   busy m back task d h = absurd (subst (IsIdle m.books.waiting) d h)
 
-  none_visited : (waiting : List ℕ) → waiting ≡ [] → IsIdle {PL = PL} [] (Visits waiting)
-  none_visited [] e = refl
-  none_visited (token ∷ left) e = cc
+  none_visited : (m : Mach PL) (waiting : List ℕ) → waiting ≡ [] → IsEarly (record m { books = record m.books { waiting = [] }; doing = Visits waiting })
+  none_visited m [] e = inr refl
+  none_visited m (token ∷ left) e = absurd (let f : token ∷ left ≡ [] = e in cc)
 
   early_of : (m n : Mach PL) → n ≡ m → IsEarly m → IsEarly n
   early_of m n e h = subst IsEarly (sym e) h
@@ -85,7 +85,7 @@ module _ {PL : Type 0} (k : Talk PL) where
 
   -- before that, nothing is rolled for a plan
   early_still : (m n : Mach PL) (e : Event) → IsIdle m.books.waiting m.doing → Step k m e n → IsEarly n × (planned_of e ≡ [])
-  early_still m n Turn h s = (early_of _ n s.1 (inr (none_visited m.books.waiting (subst (IsIdle m.books.waiting) s.0 h))), refl)
+  early_still m n Turn h s = (early_of _ n s.1 (none_visited m m.books.waiting (subst (IsIdle m.books.waiting) s.0 h)), refl)
   early_still m n Visit h s = absurd (subst (IsIdle m.books.waiting) s.2 h)
   early_still m n (Greeted true) h s = elim s.2 [ inl g ↦ (early_of _ n g.4 (inl refl), refl) | inr g ↦ (early_of _ n g.4 (inr tt), refl) ]
   early_still m n (Greeted false) h s = elim s.2 [ inl g ↦ (early_of _ n g.4 (inr tt), refl) | inr g ↦ (early_of _ n g.4 (inr tt), refl) ]
