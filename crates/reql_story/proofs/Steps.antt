@@ -25,6 +25,7 @@ use Rattle.reql_law.specs.declared.reply.Saved.{Saved}
 use Rattle.reql_story.specs.Requests.{TellTime, Clocked, Roll, Rolled, Arm, Answer}
 use Rattle.reql_story.specs.Books.{Books, all_arms}
 use Rattle.reql_story.specs.Tasks.{found_more, Asks, Talk, Task, Telling, told, visit, takes_up, wanted}
+use Rattle.reql_story.specs.Logins.{Waiting, Admitted}
 use Rattle.reql_story.specs.Session.{Greeted, Clock, Dice, greets_back, turns_away, Event, Turn, Visit, Begin, Heard, Quiet, Finish, Broken, Long, Lost, Wear, Poor, On, OnNames, Say, Want, Rest, Visits, Busy, Leaving, Mach, goes_on, leaves, end_of, spoken, IsPiece, Unread, MayStarve, Step, heard, idles, turns, over, clocked, rolled, acts_on, acts_on_names}
 use Rattle.reql_story.specs.Explained.{IsHonest}
 use Rattle.reql_story.specs.Worlds.{OnSlot, Place, sound_at, with_out, faulted, DeskPlays, Does, Goes, Why, Ended}
@@ -61,7 +62,7 @@ module _ {PL : Type 0} where
   abbrev pub moved : Place PL → Mach PL → Place PL
   moved x m = record x { now = m }
 
-  plays_none : (x : Place PL) (m : Mach PL) (e : Event) → IsApart e → DeskPlays x (moved x m) (e ∷ [])
+  pub plays_none : (x : Place PL) (m : Mach PL) (e : Event) → IsApart e → DeskPlays x (moved x m) (e ∷ [])
   plays_none x m e a = record {
     slots = λ slot. subst (Plays machine (x.slots slot) (x.slots slot)) (sym (a.slot slot)) (none_plays machine (x.slots slot));
     names = subst (Plays catalogue_machine x.names x.names) (sym a.name) (none_plays catalogue_machine x.names);
@@ -143,7 +144,7 @@ module _ {PL : Type 0} (k : Talk PL) where
   does_visit x token left e = does_step x _ Visit [] (record { bytes = refl; idle = refl; turn = refl; still = refl; clock = refl; dice = refl; apart = record { slot = λ s. refl; name = refl; honest = λ s. tt } })
       (λ out. (token, left, e, ap (λ o. with_out o (goes_on x.now (Some left) (visit k x.now.books token))) (append-nil out)))
 
-  pub does_begin : (x : Place PL) (frame : Frame) (is_read : Bool) (rest : List ℕ) → x.now.doing ≡ Visits [] → x.now.greeted ≡ true → Fits k.limits.frame frame → x.now.held ≡ spelling frame ++ rest →
+  pub does_begin : (x : Place PL) (frame : Frame) (is_read : Bool) (rest : List ℕ) → x.now.doing ≡ Visits [] → x.now.greeted ≡ Admitted → Fits k.limits.frame frame → x.now.held ≡ spelling frame ++ rest →
       Does k x (moved x (goes_on (record x.now { held = rest }) None (takes_up k x.now.books frame.token frame.body is_read))) []
   does_begin x frame is_read rest e g f h = does_step x _ (Begin frame is_read) [] (record { bytes = refl; idle = refl; turn = refl; still = refl; clock = refl; dice = refl; apart = record { slot = λ s. refl; name = refl; honest = λ s. tt } })
       (λ out. (rest, e, g, f, h, ap (λ o. with_out o (goes_on (record x.now { held = rest }) None (takes_up k x.now.books frame.token frame.body is_read))) (append-nil out)))
@@ -165,7 +166,7 @@ module _ {PL : Type 0} (k : Talk PL) where
 
   -- an end, where nothing is said
   ends_step : (t u : Tape) (x : Place PL) (n : Mach PL) (e : Event) (end : End) (arms : List Arm) → Moves (faulted end t) u (heard (e ∷ [])) [] (idles (e ∷ [])) u.over → u.over ≡ (over (e ∷ []) || t.over) → clocked (e ∷ []) ≡ [] → rolled (e ∷ []) ≡ [] → turns (e ∷ []) ≡ 0 → IsApart e →
-      n.doing ≡ Leaving arms end → Why k end n.held u.over → ((out : List ℕ) → Step k (with_out out x.now) e (with_out out n)) → Ended k t u x (moved x n) [] [] end arms 0
+      n.doing ≡ Leaving arms end → Why k end n.greeted n.held u.over → ((out : List ℕ) → Step k (with_out out x.now) e (with_out out n)) → Ended k t u x (moved x n) [] [] end arms 0
   ends_step t u x n e end arms m o c d r a l w f = record {
     events = e ∷ [];
     said = [];
@@ -197,7 +198,7 @@ module _ {PL : Type 0} (k : Talk PL) where
   ends_lost t u x bytes e r p m = ends_step t u x (leaves (record x.now { held = x.now.held ++ bytes }) x.now.books ends.Memory) (Lost bytes) ends.Memory (all_arms x.now.books) (subst (λ z. Moves t u z [] 0 u.over) (sym (append-nil bytes)) (subst (λ o. Moves t u bytes [] 0 o) (sym m.ended) m)) m.ended refl refl refl
       (record { slot = λ s. refl; name = refl; honest = λ s. tt }) refl tt (λ out. ((e, r), p, refl))
 
-  pub ends_long : (t : Tape) (x : Place PL) (len : ℕ) → x.now.doing ≡ Visits [] → x.now.greeted ≡ true → Over k.limits.frame x.now.held len → Ended k t t x (moved x (leaves x.now x.now.books (ends.TooLong len))) [] [] (ends.TooLong len) (all_arms x.now.books) 0
+  pub ends_long : (t : Tape) (x : Place PL) (len : ℕ) → x.now.doing ≡ Visits [] → x.now.greeted ≡ Admitted → Over k.limits.frame x.now.held len → Ended k t t x (moved x (leaves x.now x.now.books (ends.TooLong len))) [] [] (ends.TooLong len) (all_arms x.now.books) 0
   ends_long t x len e g o = ends_step t t x (leaves x.now x.now.books (ends.TooLong len)) (Long len) (ends.TooLong len) (all_arms x.now.books) (same_moves t) refl refl refl refl (record { slot = λ s. refl; name = refl; honest = λ s. tt }) refl o (λ out. (e, g, o, refl))
 
   pub ends_poor : (t : Tape) (x : Place PL) → MayStarve k x.now → Ended k t t x (moved x (leaves x.now x.now.books ends.Memory)) [] [] ends.Memory (all_arms x.now.books) 0
@@ -221,12 +222,12 @@ module _ {PL : Type 0} (k : Talk PL) where
   }
 
   -- ---- the greeting
-  pub does_greeted : (x : Place PL) (used : ℕ) → x.now.doing ≡ Visits [] → x.now.greeted ≡ false → Greets k.key x.now.held (greeting.Accepted used) → Does k x (moved x (greets_back x.now used true)) accepted
+  pub does_greeted : (x : Place PL) (used : ℕ) → x.now.doing ≡ Visits [] → x.now.greeted ≡ Waiting → Greets k.key x.now.held (greeting.Accepted used) → Does k x (moved x (greets_back x.now used true)) accepted
   does_greeted x used e g h = does_step x (greets_back x.now used true) (Greeted true) accepted (record { bytes = refl; idle = refl; turn = refl; still = refl; clock = refl; dice = refl; apart = record { slot = λ s. refl; name = refl; honest = λ s. tt } })
       (λ out. (e, g, inl (used, h, accepted, refl, refl)))
 
   -- it is refused, and that was told
-  pub ends_refused : (t u : Tape) (x : Place PL) (fault : GreetFault) → x.now.doing ≡ Visits [] → x.now.greeted ≡ false → Greets k.key x.now.held (greeting.Refused fault) → Moves t u [] (refusal fault) 0 t.over →
+  pub ends_refused : (t u : Tape) (x : Place PL) (fault : GreetFault) → x.now.doing ≡ Visits [] → x.now.greeted ≡ Waiting → Greets k.key x.now.held (greeting.Refused fault) → Moves t u [] (refusal fault) 0 t.over →
       Ended k t u x (moved x (turns_away x.now fault true)) [] [] (ends.Refused fault) [] 0
   ends_refused t u x fault e g h m = record {
     events = Greeted true ∷ [];
@@ -237,13 +238,13 @@ module _ {PL : Type 0} (k : Talk PL) where
     still = m.ended;
     clock = refl;
     dice = refl;
-    why = h;
+    why = inl (g, h);
     plays = plays_none x (turns_away x.now fault true) (Greeted true) (record { slot = λ s. refl; name = refl; honest = λ s. tt });
     count = refl;
   }
 
   -- the answer to it went out in part
-  pub ends_ungreeted : (t u : Tape) (x : Place PL) (used : ℕ) → x.now.doing ≡ Visits [] → x.now.greeted ≡ false → Greets k.key x.now.held (greeting.Accepted used) → SendsAll t u accepted false →
+  pub ends_ungreeted : (t u : Tape) (x : Place PL) (used : ℕ) → x.now.doing ≡ Visits [] → x.now.greeted ≡ Waiting → Greets k.key x.now.held (greeting.Accepted used) → SendsAll t u accepted false →
       Ended k t u x (moved x (greets_back x.now used false)) [] [] ends.WriteFault [] 0
   ends_ungreeted t u x used e g h s = record {
     events = Greeted false ∷ [];
@@ -259,7 +260,7 @@ module _ {PL : Type 0} (k : Talk PL) where
     count = refl;
   }
 
-  pub ends_unrefused : (t u : Tape) (x : Place PL) (fault : GreetFault) → x.now.doing ≡ Visits [] → x.now.greeted ≡ false → Greets k.key x.now.held (greeting.Refused fault) → SendsAll t u (refusal fault) false →
+  pub ends_unrefused : (t u : Tape) (x : Place PL) (fault : GreetFault) → x.now.doing ≡ Visits [] → x.now.greeted ≡ Waiting → Greets k.key x.now.held (greeting.Refused fault) → SendsAll t u (refusal fault) false →
       Ended k t u x (moved x (turns_away x.now fault false)) [] [] ends.WriteFault [] 0
   ends_unrefused t u x fault e g h s = record {
     events = Greeted false ∷ [];
