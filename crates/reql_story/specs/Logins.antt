@@ -1,5 +1,5 @@
 -- How far a session has come up to its first frame: by a greeting, or by a login and its messages.
-use Rattle.std.specs.Prelude.{◌≡◌, ◌⊎◌, ℕ, Bool, List, [], ◌∷◌, ◌++◌, take, codes, Option, Some, None}
+use Rattle.std.specs.Prelude.{◌≡◌, ◌⊎◌, ℕ, Bool, List, [], ◌∷◌, ◌++◌, length, codes, Option, Some, None}
 use Rattle.reql_scram.specs.Scram.{Account}
 use Rattle.reql_scram.specs.Texts.{escaped}
 use Rattle.reql_scram.specs.declared.fault.LoginFault.{LoginFault}
@@ -37,18 +37,17 @@ module _ {PL : Type 0} (k : Talk PL) where
   abbrev pub IsRefused : GreetFault → Stage → List ℕ → Type 0
   IsRefused f s held = ((s ≡ Waiting) × Greets k.key held (greeting.Refused f)) ⊎ ((g : LoginFault) × (f ≡ fault.Login g) × InLogin s held (gates.Refuses g))
 
-  -- What a login takes of the input, by these rolls, from one stage to another: the version and the messages that were answered, whose
-  -- bytes come first, each with its zero byte.
+  -- What a login takes of the input, by these rolls, from one stage to another: the version and the messages that were answered, each
+  -- with its zero byte, whose bytes come first.
   pub data Passed : Stage → List ℕ → List (Option (List ℕ)) → Stage → Type 0 where
     here : (stage : Stage) → Passed stage [] [] stage
-    calls : (held bytes input : List ℕ) (rs : List (Option (List ℕ))) (stage : Stage)
-        → Greets k.key held (greeting.Login 4) → bytes ≡ take 4 held
+    calls : (bytes input : List ℕ) (rs : List (Option (List ℕ))) (stage : Stage)
+        → Greets k.key bytes (greeting.Login 4) → length bytes ≡ 4
         → Passed (At gates.Greeted) input rs stage → Passed Waiting (bytes ++ input) rs stage
     rolls : (at : Gate) (held : List ℕ) (bytes : Option (List ℕ)) (rs : List (Option (List ℕ))) (input : List ℕ) (stage : Stage)
         → turn_of account at held ≡ gates.Rolls
         → Passed (At (after_roll at bytes)) input rs stage → Passed (At at) input (bytes ∷ rs) stage
-    told : (at next : Gate) (used behind said input : List ℕ) (rs : List (Option (List ℕ))) (stage : Stage)
-        → turn_of account at (used ++ behind) ≡ gates.Says said behind next
+    told : (at next : Gate) (used said input : List ℕ) (rs : List (Option (List ℕ))) (stage : Stage)
+        → turn_of account at used ≡ gates.Says said [] next
         → Passed (At next) input rs stage → Passed (At at) (used ++ input) rs stage
-    admits : (at : Gate) (used behind said : List ℕ)
-        → turn_of account at (used ++ behind) ≡ gates.Admits said behind → Passed (At at) used [] Admitted
+    admits : (at : Gate) (used said : List ℕ) → turn_of account at used ≡ gates.Admits said [] → Passed (At at) used [] Admitted

@@ -230,7 +230,7 @@ module _ {PL : Type 0} (k : Talk PL) where
 
   -- a roll of a login
   abbrev pub CastStep : Mach PL → Option (List ℕ) → Mach PL → Type 0
-  CastStep m bytes n = (m.doing ≡ Visits []) × (x : InLogin k m.greeted m.held gates.Rolls) × (n ≡ record m { greeted = At (after_roll x.gate bytes) })
+  CastStep m bytes n = (m.doing ≡ Visits []) × (x : InLogin k m.greeted m.held gates.Rolls) × (n ≡ record m { greeted = At (after_roll x.gate bytes); doing = Visits [] })
 
   abbrev pub GreetStep : Mach PL → Bool → Mach PL → Type 0
   GreetStep m whole n = (m.doing ≡ Visits []) × (m.greeted ≡ Waiting)

@@ -118,6 +118,9 @@ AllInOrder = (keys : Keys) (limits : Limits) → story.InOrder (talk keys limits
 abbrev pub AllFramesHandled : Type 0
 AllFramesHandled = (keys : Keys) (limits : Limits) → story.FramesHandled (talk keys limits)
 
+abbrev pub AllLoginRollsFirst : Type 0
+AllLoginRollsFirst = (keys : Keys) (limits : Limits) → story.LoginRollsFirst (talk keys limits)
+
 abbrev pub AllWornLate : Type 0
 AllWornLate = (keys : Keys) (limits : Limits) → story.WornLate (talk keys limits)
 

@@ -1,6 +1,6 @@
 // Laws of sessions that plan ReQL.
 ghost use Rattle.reql_plan_law.specs.Looks.{ReadSlotsRise};
-ghost use Rattle.reql_told.specs.Laws.{PlansAreTold, BatchesAgree, InfoIsServers, AllInOrder, AllFramesHandled, AllWornLate, AllFirstFailed, AllAreAnswered, AllWaitForNothing, AllValidClose, AllKept, AllOneMore, AllLearning, AllNothingLeft, AllFeedsHold, AllSkipsAreSent, AllFeedsAreOpened, AllFeedsBegin, AllFeedsOpen, AllFeedsEnd, AllContinuesAreAnswered, AllNothingKeptBack, AllOfFeedsIsSent, AllFeedsAreTold, AllBatchesAreOfFeeds, AllBatchesAreFull, AllTakesAreOfFeeds, AllIsSaid, AllFeedsAreRead, AllFeedsAreTheirs, AllFeedsAreAskedInTurn, AllRunNoOtherFeeds, AllFeedsEndWithTheirOwn, AllFaultyFeedsAreRefused, AllCrowdedFeedsAreRefused, AllNextFeedsAreRun, AllOpenFeedsAreTold, AllDeniedFeedsAreClosed, AllArmsAreApart, AllTakesArePlaced, AllSubscribesArePlaced};
+ghost use Rattle.reql_told.specs.Laws.{PlansAreTold, BatchesAgree, InfoIsServers, AllInOrder, AllFramesHandled, AllLoginRollsFirst, AllWornLate, AllFirstFailed, AllAreAnswered, AllWaitForNothing, AllValidClose, AllKept, AllOneMore, AllLearning, AllNothingLeft, AllFeedsHold, AllSkipsAreSent, AllFeedsAreOpened, AllFeedsBegin, AllFeedsOpen, AllFeedsEnd, AllContinuesAreAnswered, AllNothingKeptBack, AllOfFeedsIsSent, AllFeedsAreTold, AllBatchesAreOfFeeds, AllBatchesAreFull, AllTakesAreOfFeeds, AllIsSaid, AllFeedsAreRead, AllFeedsAreTheirs, AllFeedsAreAskedInTurn, AllRunNoOtherFeeds, AllFeedsEndWithTheirOwn, AllFaultyFeedsAreRefused, AllCrowdedFeedsAreRefused, AllNextFeedsAreRun, AllOpenFeedsAreTold, AllDeniedFeedsAreClosed, AllArmsAreApart, AllTakesArePlaced, AllSubscribesArePlaced};
 ghost use Rattle.reql_told.specs.Looks.{AllAreSeenAtTheirSlots, AllDroppedTablesAreTold, AllLookAtNoOthers, AllReadSlotsAreLookedAt, AllTermsGoOnInWhatWasSeen, AllValuesAreOfWhatWasSeen};
 ghost use Rattle.reql_told.specs.Refusing.{FirstRefusal, ShapeRefusal};
 
@@ -70,7 +70,7 @@ pub fn server_is_told()
 {}
 
 /// The laws of explained sessions, whatever their key, their password and their limits: what came in was handled in order; every whole
-/// frame was handled, but for a failed send, a worn session or want of memory; a session is worn only where more came than
+/// frame was handled, but for a failed send, a worn session or want of memory; the rolls of a login come before those of requests; a session is worn only where more came than
 /// its turns may take; its first failed send ends it; each frame that wants an answer is given one before the next is taken,
 /// but for a CONTINUE that waits, and that one waits only where, visited in that very turn, it had nothing left of its feed and
 /// was given nothing by the arms that were taken from; a session that is given a valid input handles every frame of it and
@@ -81,6 +81,7 @@ pub fn server_is_told()
 pub fn sessions_hold()
     ensures in_order { AllInOrder }
     ensures frames_handled { AllFramesHandled }
+    ensures login_rolls_first { AllLoginRollsFirst }
     ensures worn_late { AllWornLate }
     ensures first_failed { AllFirstFailed }
     ensures each_is_answered { AllAreAnswered }

@@ -63,11 +63,11 @@ impl Feeder {
     }
 
     /// Passes over the first so many bytes that it holds.
-    pub fn pass_over(&mut self, used: usize)
-        requires { used ≤ length self.old.held }
-        ensures { self.new ≡ record { limit = self.old.limit; held = drop used self.old.held } }
+    pub fn pass_over(&mut self, count: usize)
+        requires { count ≤ length self.old.held }
+        ensures { self.new ≡ record { limit = self.old.limit; held = drop count self.old.held } }
     {
-        self.start += used;
+        self.start += count;
     }
 
     /// Gives it the next piece of the stream. An `Err` changes nothing.

@@ -5,6 +5,7 @@ use Rattle.reql_story.proofs.Idling.{nothing_was_there}
 use Rattle.reql_story.proofs.Feeding.{session_fed, session_tells}
 use Rattle.reql_story.proofs.Orders.{handled}
 use Rattle.reql_story.proofs.Rests as rests
+use Rattle.reql_story.proofs.Rolling as rolling
 use Rattle.reql_story.proofs.Unsent as unsent
 use Rattle.reql_story.proofs.Upward as upward
 use Rattle.reql_told.specs.Told.{talk, comes_by}
@@ -16,6 +17,9 @@ returns-clause-in_order c = λ keys limits. handled (talk keys limits)
 
 pub returns-clause-frames_handled : goal.returns-clause-frames_handled
 returns-clause-frames_handled c = λ keys limits. rests.frames_handled (talk keys limits)
+
+pub returns-clause-login_rolls_first : goal.returns-clause-login_rolls_first
+returns-clause-login_rolls_first c = λ keys limits. rolling.login_rolls_first (talk keys limits)
 
 pub returns-clause-worn_late : goal.returns-clause-worn_late
 returns-clause-worn_late c = λ keys limits. counts.worn_late (talk keys limits)
