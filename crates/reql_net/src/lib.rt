@@ -11,6 +11,7 @@ mod door;
 mod ear;
 mod memory;
 mod net;
+mod pace;
 mod tcp;
 mod tcp_net;
 #[cfg(test)]

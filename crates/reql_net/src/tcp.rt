@@ -3,7 +3,8 @@ ghost use Rattle.reql_net.specs.Tcp.{CameFits};
 ghost use Rattle.reql_outside.specs.Tape.{IsFresh, Receives, RecvFits, SendFits, Sends};
 
 use crate::ear::{Ear, Woken};
-use reql_outside::{Link, Recv, Sending};
+use crate::pace::Pace;
+use reql_outside::{Expected, Link, Recv, Sending};
 use std::io::{self, ErrorKind, Read, Write};
 use std::marker::Model;
 use std::net::TcpStream;
@@ -14,9 +15,6 @@ const READ_MILLIS: u64 = 20;
 
 // How long a send waits for a client that doesn't read.
 const WRITE_SECONDS: u64 = 30;
-
-// How long a client that has connected may say nothing.
-pub(crate) const SILENCE_SECONDS: u64 = 20;
 
 /// The counts of a link over TCP.
 #[derive(Clone, Copy, Debug, PartialEq, Eq)]
@@ -34,16 +32,16 @@ pub struct TcpRecord {
 /// A link over a TCP socket. It tells no bytes.
 ///
 /// A `recv` is idle after 20 milliseconds, or at once where its session waits for a change and the
-/// bell rings. The input ends where no byte has come for 20 seconds after the client was accepted. A
-/// `send` to a client that reads nothing for 30 seconds fails; to one that is gone it fails at once,
-/// and raises no signal.
+/// bell rings. The input ends where the greeting and the login aren't whole 10 seconds after the client
+/// was accepted, and where less than 30 KiB of a frame that has begun come in 30 seconds. A `send` to a
+/// client that reads nothing for 30 seconds fails; to one that is gone it fails at once, and raises no
+/// signal.
 #[derive(Drop)]
 pub struct TcpLink {
     rt: HostRuntime,
     stream: TcpStream,
     ear: Ear,
-    // when the client was accepted, as long as no byte has come
-    pub(crate) silent_since: Option<Instant>,
+    pub(crate) pace: Pace,
     counts: TcpRecord,
 }
 
@@ -103,12 +101,12 @@ impl TcpLink {
         stream.set_nodelay(true)?;
         stream.set_read_timeout(Some(Duration::from_millis(READ_MILLIS)))?;
         stream.set_write_timeout(Some(Duration::from_secs(WRITE_SECONDS)))?;
-        let silent_since = Some(Instant::now(&rt)?);
+        let pace = Pace::new(Instant::now(&rt)?);
         Ok(TcpLink {
             rt,
             stream,
             ear,
-            silent_since,
+            pace,
             counts: TcpRecord {
                 faults_in: 0,
                 faults_out: 0,
@@ -130,17 +128,6 @@ impl TcpLink {
             Woken::Bell => false,
         }
     }
-
-    // Whether the client has said nothing for so long that nothing is awaited of it any more.
-    fn is_given_up(&self) -> bool {
-        let Some(since) = self.silent_since else {
-            return false;
-        };
-        match since.elapsed(&self.rt) {
-            Ok(time) => time >= Duration::from_secs(SILENCE_SECONDS),
-            Err(_) => false,
-        }
-    }
 }
 
 impl Link for TcpLink {
@@ -157,7 +144,8 @@ impl Link for TcpLink {
         ensures fits { RecvFits result (length buf.old) }
         ensures told { Receives self.old self.new buf.new result }
     {
-        if self.counts.over {
+        if self.counts.over || self.pace.is_over(&self.rt) {
+            self.counts.over = true;
             return Recv::End;
         }
         let came = if self.hears() {
@@ -171,12 +159,8 @@ impl Link for TcpLink {
                 Recv::End
             }
             Came::Bytes(n) => {
-                self.silent_since = None;
+                self.pace.comes(n);
                 Recv::Got(n)
-            }
-            Came::Nothing if self.is_given_up() => {
-                self.counts.over = true;
-                Recv::End
             }
             Came::Nothing => {
                 self.counts.idles = self.counts.idles.saturating_add(1);
@@ -202,6 +186,12 @@ impl Link for TcpLink {
         Sending::Sent(taken)
     }
 
+    fn expects(&mut self, expected: Expected)
+        ensures still { self.new ≡ self.old }
+    {
+        self.pace.expects(&self.rt, expected);
+    }
+
     fn awaits(&mut self, slot: u32)
         ensures still { self.new ≡ self.old }
     {
@@ -219,7 +209,7 @@ impl Link for TcpLink {
             rt: _,
             stream: _,
             ear: _,
-            silent_since: _,
+            pace: _,
             counts,
         } = self;
         counts

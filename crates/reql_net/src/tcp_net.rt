@@ -18,6 +18,8 @@ use std::marker::Model;
 use std::net::{Ipv4Addr, SocketAddr, SocketAddrV4, TcpListener, TcpStream};
 use std::os::fd::AsRawFd;
 use std::sync::Arc;
+use std::thread;
+use std::time::Duration;
 
 /// The door of one worker: it takes its clients from the listener that all doors of a net share.
 #[derive(Drop)]
@@ -38,21 +40,18 @@ impl Model for TcpDoor {
     ghost view = { λ d. record { gave = d.gave; over = d.broken; broken = d.broken; faults = d.faults } };
 }
 
-// Whether the next accept may do better: a signal came, or a client left before it was taken.
+// How long a door rests where a client can't be set up now, for want of descriptors or memory.
+const REST_MILLIS: u64 = 50;
+
+// Whether the next accept may do better at once: a signal came, or a client left before it was taken.
 fn passes(kind: ErrorKind) -> bool {
     kind == ErrorKind::Interrupted || kind == ErrorKind::ConnectionAborted
 }
 
-// The next client. One that left again is passed over.
-fn next_client(listener: &TcpListener) -> Option<TcpStream> {
-    for _ in 0..u64::MAX {
-        match listener.accept() {
-            Ok((stream, _)) => return Some(stream),
-            Err(e) if passes(e.kind()) => {}
-            Err(_) => return None,
-        }
-    }
-    None
+// Whether the listener itself is of no use any more: it is closed (EBADF), doesn't listen (EINVAL), or
+// is no socket (ENOTSOCK, EOPNOTSUPP).
+fn is_final(error: &io::Error) -> bool {
+    matches!(error.raw_os_error(), Some(9 | 22 | 88 | 95))
 }
 
 impl TcpDoor {
@@ -70,14 +69,27 @@ impl TcpDoor {
         Ok(link)
     }
 
+    // The next client that can be set up. One that left again, or for which there is no descriptor or
+    // memory now, is passed over.
     fn next_link(&self) -> Option<TcpLink>
         ensures { IfSome result (λ l. IsFresh l) }
     {
-        let stream = next_client(&self.listener)?;
-        match self.link(stream) {
-            Ok(link) => Some(link),
-            Err(_) => None,
+        for _ in 0..u64::MAX {
+            match self.listener.accept() {
+                Ok((stream, _)) => match self.link(stream) {
+                    Ok(link) => return Some(link),
+                    Err(_) => self.rest(),
+                },
+                Err(e) if is_final(&e) => return None,
+                Err(e) if passes(e.kind()) => {}
+                Err(_) => self.rest(),
+            }
         }
+        None
+    }
+
+    fn rest(&self) {
+        thread::sleep(&self.rt, Duration::from_millis(REST_MILLIS));
     }
 }
 

@@ -1,9 +1,9 @@
 ghost use Rattle.std.specs.Prelude.{◌≡◌, IfOk};
 ghost use Rattle.reql_net.specs.Doors.{untouched};
 
-use crate::tcp::SILENCE_SECONDS;
+use crate::pace::{GREETING_SECONDS, REST_SECONDS};
 use crate::{Accept, Door, MemDoor, MemNet, Net, NetFault, Post, TcpDoor, TcpLink, TcpNet};
-use reql_outside::{Link, MemClock, MemDice, MemLink, Recv, send_all};
+use reql_outside::{Expected, Link, MemClock, MemDice, MemLink, Recv, send_all};
 use std::alloc::Global;
 use std::io::{Read, Write};
 use std::net::TcpStream;
@@ -109,31 +109,41 @@ fn a_link_that_waits_is_woken_by_a_change_alone(rt: HostRuntime) -> Result<(), F
     Ok(())
 }
 
-// A link whose client was accepted so many seconds ago, and says nothing.
-fn silent_for(rt: &HostRuntime, link: &mut TcpLink, seconds: u64) -> Result<Recv, Fail> {
+// What a link gives whose client has owed what it owes for so many seconds.
+fn owed_for(rt: &HostRuntime, link: &mut TcpLink, seconds: u64) -> Result<Recv, Fail> {
     let now = Instant::now(rt)?;
-    link.silent_since = now.checked_sub(Duration::from_secs(seconds));
+    if let Some(then) = now.checked_sub(Duration::from_secs(seconds)) {
+        link.pace.since = then;
+    }
     Ok(link.recv(&mut [0u8; 16]))
 }
 
 #[test]
-fn a_client_that_says_nothing_is_given_up(rt: HostRuntime) -> Result<(), Fail> {
+fn a_client_that_is_slow_to_greet_is_given_up(rt: HostRuntime) -> Result<(), Fail> {
     let mut door = one_door(rt)?;
-    let (mut one, silent) = joined(&rt, &mut door)?;
-    let (mut other, mut speaking) = joined(&rt, &mut door)?;
-    let early = silent_for(&rt, &mut one, SILENCE_SECONDS - 1)?;
-    let late = silent_for(&rt, &mut one, SILENCE_SECONDS)?;
-    assert_eq!(rt;
-        (early, late, one.recv(&mut [0u8; 16])),
-        (Recv::Idle, Recv::End, Recv::End)
-    );
-    // one that has said something may be silent for as long as it likes
-    speaking.write(b"a")?;
-    let said = silent_for(&rt, &mut other, SILENCE_SECONDS)?;
-    let quiet = other.recv(&mut [0u8; 16]);
-    assert_eq!(rt; (said, quiet), (Recv::Got(1), Recv::Idle));
-    assert_eq!(rt; other.silent_since.is_none(), true);
-    drop((silent, speaking));
+    let (mut one, mut slow) = joined(&rt, &mut door)?;
+    let early = owed_for(&rt, &mut one, GREETING_SECONDS - 1)?;
+    // a byte of the greeting gives no more time
+    slow.write(b"a")?;
+    let said = owed_for(&rt, &mut one, GREETING_SECONDS - 1)?;
+    let late = owed_for(&rt, &mut one, GREETING_SECONDS)?;
+    assert_eq!(rt; (early, said, late), (Recv::Idle, Recv::Got(1), Recv::End));
+    assert_eq!(rt; one.recv(&mut [0u8; 16]), Recv::End);
+    Ok(())
+}
+
+#[test]
+fn a_frame_that_has_begun_has_to_go_on(rt: HostRuntime) -> Result<(), Fail> {
+    let mut door = one_door(rt)?;
+    let (mut one, client) = joined(&rt, &mut door)?;
+    // a client that owes nothing may be silent for as long as it likes
+    one.expects(Expected::Frame);
+    let quiet = owed_for(&rt, &mut one, 10 * REST_SECONDS)?;
+    one.expects(Expected::Rest);
+    let early = owed_for(&rt, &mut one, REST_SECONDS - 1)?;
+    let late = owed_for(&rt, &mut one, REST_SECONDS)?;
+    assert_eq!(rt; (quiet, early, late), (Recv::Idle, Recv::Idle, Recv::End));
+    drop(client);
     Ok(())
 }
 

@@ -22,7 +22,7 @@ mod tests;
 
 pub use clock::{Clock, MemClock, OsClock, Told};
 pub use dice::{Dice, MemDice, OsDice, Rolled};
-pub use link::{Link, Recv, Sending};
+pub use link::{Expected, Link, Recv, Sending};
 pub use memory::{MemLink, MemRecord};
 pub use script::LinkStep;
 pub use sending::send_all;

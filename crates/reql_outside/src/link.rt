@@ -23,6 +23,17 @@ pub enum Sending {
     Failed,
 }
 
+/// What a session waits for, as it tells its link.
+#[derive(Clone, Copy, Debug, PartialEq, Eq)]
+pub enum Expected {
+    /// The rest of the greeting or of the login, which a client owes soon after it came.
+    Greeting,
+    /// The rest of a frame that has begun.
+    Rest,
+    /// A frame, for which a client may take as long as it likes.
+    Frame,
+}
+
 /// A link to one client: bytes come in any pieces, and go out in any pieces.
 ///
 /// A count of faults that stands at 2^64 - 1 counts as risen: it stays there.
@@ -47,6 +58,12 @@ pub trait Link {
         requires { 0 < length piece.now }
         ensures fits { SendFits result (length piece.now) }
         ensures told { Sends (tape self.old) (tape self.new) piece.now result };
+
+    /// Tells the link what its session waits for, so that the link can be over where the client takes
+    /// too long for it. What is told holds until it is told anew; at first it is `Greeting`.
+    fn expects(&mut self, _expected: Expected)
+        ensures still { tape self.new ≡ tape self.old }
+    {}
 
     /// Tells the link that its session waits for a change of the table in a slot.
     ///
