@@ -1,5 +1,4 @@
 use Rattle.std.proofs.Common.{inl, inr, ap, ◌∙◌, length}
-use Rattle.reql_hearing.specs.Hearing.{Came}
 use Rattle.reql_turns.proofs.Frames.{over_received, whole_room, within}
 use Rattle.reql_turns.proofs.receiving.receive_more.Goals as goal
 
