@@ -26,17 +26,17 @@ use Rattle.reql_session.specs.Ending.{on_course}
 module _ {PL : Type 0} (k : Talk PL) where
   -- ---- one after another
   pub settles_on : (t u v : Tape) (w x y : AtWork) (a b : Next PL) (end : Option End) → Leads k t u w x a b → Settles k u v x y b end → Settles k t v w y a end
-  settles_on t u v w x y a b None l s held greeted back =
-      runs_on k (world_of t w (goes_on (mach_at w held greeted Rest) back a)) (world_of u x (goes_on (mach_at w held greeted Rest) back b)) (world_at v y held greeted (back_to back)) 0 0 (l (mach_at w held greeted Rest) back) (s held greeted back)
-  settles_on t u v w x y a b (Some end) l s held greeted back =
-      ends_here_on k (world_of t w (goes_on (mach_at w held greeted Rest) back a)) (world_of u x (goes_on (mach_at w held greeted Rest) back b)) v y end 0 0 (l (mach_at w held greeted Rest) back) (s held greeted back)
+  settles_on t u v w x y a b None l s held stage back =
+      runs_on k (world_of t w (goes_on (mach_at w held stage Rest) back a)) (world_of u x (goes_on (mach_at w held stage Rest) back b)) (world_at v y held stage (back_to back)) 0 0 (l (mach_at w held stage Rest) back) (s held stage back)
+  settles_on t u v w x y a b (Some end) l s held stage back =
+      ends_here_on k (world_of t w (goes_on (mach_at w held stage Rest) back a)) (world_of u x (goes_on (mach_at w held stage Rest) back b)) v y end 0 0 (l (mach_at w held stage Rest) back) (s held stage back)
 
   pub leads_on : (t u v : Tape) (w x y : AtWork) (a b c : Next PL) → Leads k t u w x a b → Leads k u v x y b c → Leads k t v w y a c
   leads_on t u v w x y a b c f g m back = runs_on k (world_of t w (goes_on m back a)) (world_of u x (goes_on m back b)) (world_of v y (goes_on m back c)) 0 0 (f m back) (g m back)
 
   pub settles_done : (t : Tape) (w : AtWork) (b : Books) → w.books ≡ b → Settles k t t w w (done b) None
-  settles_done t w b e held greeted back =
-      subst (λ z. Runs k (world_of t w (goes_on (mach_at w held greeted Rest) back (done z))) (world_at t w held greeted (back_to back)) 0) e (runs_none k (world_at t w held greeted (back_to back)))
+  settles_done t w b e held stage back =
+      subst (λ z. Runs k (world_of t w (goes_on (mach_at w held stage Rest) back (done z))) (world_at t w held stage (back_to back)) 0) e (runs_none k (world_at t w held stage (back_to back)))
 
   -- ---- answers
   pub leads_said : (t u : Tape) (w : AtWork) (b kept : Books) (token : ℕ) (a : Answer) (lose after : Option (List Arm)) → SendsAll t u (spoken token a) true → Leads k t u w w (at b (Telling token a kept lose after)) (told token kept after)
@@ -46,10 +46,10 @@ module _ {PL : Type 0} (k : Talk PL) where
       (does_say k (place_at w (goes_on m back (at b (Telling token a kept lose after)))) back token a kept lose after refl) s)
 
   pub settles_unsent : (t u : Tape) (w : AtWork) (b kept : Books) (token : ℕ) (a : Answer) (lose after : Option (List Arm)) → w.books ≡ kept → SendsAll t u (spoken token a) false → Settles k t u w w (at b (Telling token a kept lose after)) (Some ends.WriteFault)
-  settles_unsent t u w b kept token a lose after e s held greeted back =
-      subst (λ z. Outcome k (world_of t w (goes_on (mach_at w held greeted Rest) back (at b (Telling token a z lose after)))) u w held greeted (back_to back) 0 (Some ends.WriteFault)) e
-      (ends_quiet k t u w (goes_on (mach_at w held greeted Rest) back (at b (Telling token a w.books lose after))) (leaves (goes_on (mach_at w held greeted Rest) back (at b (Telling token a w.books lose after))) w.books ends.WriteFault) ends.WriteFault 0 tt
-      (ends_unsent k t u (place_at w (goes_on (mach_at w held greeted Rest) back (at b (Telling token a w.books lose after)))) back token a w.books lose after refl s))
+  settles_unsent t u w b kept token a lose after e s held stage back =
+      subst (λ z. Outcome k (world_of t w (goes_on (mach_at w held stage Rest) back (at b (Telling token a z lose after)))) u w held stage (back_to back) 0 (Some ends.WriteFault)) e
+      (ends_quiet k t u w (goes_on (mach_at w held stage Rest) back (at b (Telling token a w.books lose after))) (leaves (goes_on (mach_at w held stage Rest) back (at b (Telling token a w.books lose after))) w.books ends.WriteFault) ends.WriteFault 0 tt
+      (ends_unsent k t u (place_at w (goes_on (mach_at w held stage Rest) back (at b (Telling token a w.books lose after)))) back token a w.books lose after refl s))
 
   pub settles_said : (t u : Tape) (w : AtWork) (b kept : Books) (token : ℕ) (a : Answer) (lose : Option (List Arm)) (whole : Bool) → w.books ≡ kept → SendsAll t u (spoken token a) whole → Settles k t u w w (at b (Telling token a kept lose None)) (ended_by whole)
   settles_said t u w b kept token a lose true e s = settles_on t u u w w w (at b (Telling token a kept lose None)) (done kept) None (leads_said t u w b kept token a lose None s) (settles_done u w kept e)

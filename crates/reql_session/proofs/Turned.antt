@@ -6,6 +6,7 @@ use Rattle.reql_wire.specs.declared.frame.Frame.{Frame}
 use Rattle.reql_story.specs.Requests.{Asked}
 use Rattle.reql_story.specs.Books.{Books, Open, feed_of, has_token, is_open, cursor_of}
 use Rattle.reql_story.specs.Tasks.{Talk, begin, takes_up}
+use Rattle.reql_story.specs.Logins.{Stage, Admitted}
 use Rattle.reql_story.specs.Session.{Rest, Visits, goes_on}
 use Rattle.reql_story.specs.declared.end.End.{End}
 use Rattle.reql_story.proofs.Going.{goes_said}
@@ -47,23 +48,23 @@ pub keeps_turn : (n : ℕ) (b : Books) → Keeps n [] b → Keeps n b.waiting (r
 keeps_turn n b k = record { apart = record { cursors = k.apart.cursors; feeds = k.apart.feeds }; quiet = subst (AllQuiet b.feeds) (append-nil b.waiting) k.quiet; there = k.there }
 
 module _ {PL : Type 0} (k : Talk PL) where
-  outcome_then : (a b : World PL) (u : Tape) (v : AtWork) (held : List ℕ) (greeted : Bool) (end : Option End) → Runs k a b 1 → Outcome k b u v held greeted (Visits []) 0 end → Outcome k a u v held greeted (Visits []) 1 end
-  outcome_then a b u v held greeted None r o = runs_on k a b (world_at u v held greeted (Visits [])) 1 0 r o
-  outcome_then a b u v held greeted (Some end) r o = ends_here_on k a b u v end 1 0 r o
+  outcome_then : (a b : World PL) (u : Tape) (v : AtWork) (held : List ℕ) (stage : Stage) (end : Option End) → Runs k a b 1 → Outcome k b u v held stage (Visits []) 0 end → Outcome k a u v held stage (Visits []) 1 end
+  outcome_then a b u v held stage None r o = runs_on k a b (world_at u v held stage (Visits [])) 1 0 r o
+  outcome_then a b u v held stage (Some end) r o = ends_here_on k a b u v end 1 0 r o
 
-  pub turn_begun : (t u : Tape) (w x v : AtWork) (held : List ℕ) (greeted : Bool) (end : Option End) → x ≡ record w { books = record w.books { waiting = [] } } → Outcome k (world_at t x held greeted (Visits w.books.waiting)) u v held greeted (Visits []) 0 end → Outcome k (world_at t w held greeted Rest) u v held greeted (Visits []) 1 end
-  turn_begun t u w x v held greeted end e o =
-      outcome_then (world_at t w held greeted Rest) (world_at t (record w { books = record w.books { waiting = [] } }) held greeted (Visits w.books.waiting)) u v held greeted end
-      (runs_quiet k t t w (mach_at w held greeted Rest) (mach_at (record w { books = record w.books { waiting = [] } }) held greeted (Visits w.books.waiting)) 1 (goes_turn k t (place_at w (mach_at w held greeted Rest)) refl))
-      (subst (λ z. Outcome k (world_at t z held greeted (Visits w.books.waiting)) u v held greeted (Visits []) 0 end) e o)
+  pub turn_begun : (t u : Tape) (w x v : AtWork) (held : List ℕ) (stage : Stage) (end : Option End) → x ≡ record w { books = record w.books { waiting = [] } } → Outcome k (world_at t x held stage (Visits w.books.waiting)) u v held stage (Visits []) 0 end → Outcome k (world_at t w held stage Rest) u v held stage (Visits []) 1 end
+  turn_begun t u w x v held stage end e o =
+      outcome_then (world_at t w held stage Rest) (world_at t (record w { books = record w.books { waiting = [] } }) held stage (Visits w.books.waiting)) u v held stage end
+      (runs_quiet k t t w (mach_at w held stage Rest) (mach_at (record w { books = record w.books { waiting = [] } }) held stage (Visits w.books.waiting)) 1 (goes_turn k t (place_at w (mach_at w held stage Rest)) refl))
+      (subst (λ z. Outcome k (world_at t z held stage (Visits w.books.waiting)) u v held stage (Visits []) 0 end) e o)
 
   -- ---- a frame
-  pub frame_begun : (t u : Tape) (w v : AtWork) (frame : Frame) (is_read : Bool) (rest : List ℕ) (end : Option End) → Fits k.limits.frame frame → Settles k t u w v (takes_up k w.books frame.token frame.body is_read) end → Outcome k (world_at t w (spelling frame ++ rest) true (Visits [])) u v rest true Rest 0 end
+  pub frame_begun : (t u : Tape) (w v : AtWork) (frame : Frame) (is_read : Bool) (rest : List ℕ) (end : Option End) → Fits k.limits.frame frame → Settles k t u w v (takes_up k w.books frame.token frame.body is_read) end → Outcome k (world_at t w (spelling frame ++ rest) Admitted (Visits [])) u v rest Admitted Rest 0 end
   frame_begun t u w v frame is_read rest end f s =
-      outcome_on k (world_at t w (spelling frame ++ rest) true (Visits [])) (world_of t w (goes_on (mach_at w rest true Rest) None (takes_up k w.books frame.token frame.body is_read))) u v rest true Rest end
-      (runs_quiet k t t w (mach_at w (spelling frame ++ rest) true (Visits [])) (goes_on (mach_at w rest true Rest) None (takes_up k w.books frame.token frame.body is_read)) 0
-      (goes_said k t t (place_at w (mach_at w (spelling frame ++ rest) true (Visits []))) (place_at w (goes_on (mach_at w rest true Rest) None (takes_up k w.books frame.token frame.body is_read))) []
-      (does_begin k (place_at w (mach_at w (spelling frame ++ rest) true (Visits []))) frame is_read rest refl refl f refl) (same_moves t)))
+      outcome_on k (world_at t w (spelling frame ++ rest) Admitted (Visits [])) (world_of t w (goes_on (mach_at w rest Admitted Rest) None (takes_up k w.books frame.token frame.body is_read))) u v rest Admitted Rest end
+      (runs_quiet k t t w (mach_at w (spelling frame ++ rest) Admitted (Visits [])) (goes_on (mach_at w rest Admitted Rest) None (takes_up k w.books frame.token frame.body is_read)) 0
+      (goes_said k t t (place_at w (mach_at w (spelling frame ++ rest) Admitted (Visits []))) (place_at w (goes_on (mach_at w rest Admitted Rest) None (takes_up k w.books frame.token frame.body is_read))) []
+      (does_begin k (place_at w (mach_at w (spelling frame ++ rest) Admitted (Visits []))) frame is_read rest refl refl f refl) (same_moves t)))
       (s rest true None)
 
   pub read_or_not : (t u : Tape) (w v : AtWork) (token : ℕ) (body : List ℕ) (asked : Asked PL) (end : Option End) → asked ≡ k.asked body → SettlesOrWants k t u w v token (begin k w.books token asked) end → (is_read : Bool) × Settles k t u w v (takes_up k w.books token body is_read) end

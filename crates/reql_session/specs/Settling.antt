@@ -7,6 +7,7 @@ use Rattle.reql_law.specs.Machine.{State}
 use Rattle.reql_story.specs.Books.{Books}
 use Rattle.reql_story.specs.Requests.{Internal}
 use Rattle.reql_story.specs.Tasks.{Talk, Next, only_tell}
+use Rattle.reql_story.specs.Logins.{Stage}
 use Rattle.reql_story.specs.Session.{Mach, Rest, back_to, goes_on}
 use Rattle.reql_story.specs.declared.end.End.{End}
 use Rattle.reql_story.specs.declared.end.End.TheVariants as ends
@@ -29,7 +30,7 @@ module _ {PL : Type 0} (k : Talk PL) where
 
   -- from a point of a task to its end, with the books that are at work then, or to the end of the session
   abbrev pub Settles : Tape → Tape → AtWork → AtWork → Next PL → Option End → Type 0
-  Settles t u w v x end = (held : List ℕ) (greeted : Bool) (back : Option (List ℕ)) → Outcome k (world_of t w (goes_on (mach_at w held greeted Rest) back x)) u v held greeted (back_to back) 0 end
+  Settles t u w v x end = (held : List ℕ) (stage : Stage) (back : Option (List ℕ)) → Outcome k (world_of t w (goes_on (mach_at w held stage Rest) back x)) u v held stage (back_to back) 0 end
 
   -- from this point, or from the want of memory in its place
   abbrev pub SettlesOrWants : Tape → Tape → AtWork → AtWork → ℕ → Next PL → Option End → Type 0

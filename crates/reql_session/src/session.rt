@@ -14,7 +14,7 @@ use reql_catalog::Catalogue;
 use reql_hall::{Desk, Hall};
 use reql_law::{Limits, TableEngine};
 use reql_memory::Refused;
-use reql_outside::{Clock, Dice, Link};
+use reql_outside::{Clock, Dice, Link, Rolled};
 use reql_shelf::Shelf;
 use reql_story::{End, Planning};
 use reql_talk::Planner;
@@ -149,8 +149,19 @@ where
         self.planner.key()
     }
 
+    fn password(&self) -> &[u8] {
+        self.planner.password()
+    }
+
     fn limits(&self) -> &Limits {
         self.planner.limits()
+    }
+
+    fn roll(&mut self) -> Option<[u8; 16]> {
+        match self.dice.roll() {
+            Rolled::Bytes(bytes) => Some(bytes),
+            Rolled::Failed => None,
+        }
     }
 
     fn visit(&mut self, link: &mut L) -> Option<End> {

@@ -1,7 +1,8 @@
 // The visits of a turn.
-ghost use Rattle.std.specs.Prelude.{◌≡◌, ℤ, ℕ, List, [], Bool, length};
+ghost use Rattle.std.specs.Prelude.{◌≡◌, ℤ, ℕ, List, [], length};
 ghost use Rattle.reql_outside.specs.Source.{Source};
 ghost use Rattle.reql_hall.specs.Rooms.{Sits};
+ghost use Rattle.reql_story.specs.Logins.{Stage};
 ghost use Rattle.reql_story.specs.Session.{Visits};
 ghost use Rattle.reql_story.specs.Tasks.{Talk};
 ghost use Rattle.reql_talk.specs.World.{Outcome, world_at};
@@ -36,11 +37,11 @@ pub(crate) fn visit_all<P: Planning, R: Wait, C: TableEngine + Drop, L: Link>(
     requires keeps { Keeps (length hall.now.slots) tokens.now (books_of shelf.old) }
     ensures of_this_hall { Sits hall.now desk.new }
     ensures keeps { Keeps (length hall.now.slots) [] (books_of shelf.new) }
-    ensures visited { (k : Talk P.Plan) (clock : Source ℤ) (dice : Source (List ℕ)) (held : List ℕ) (greeted : Bool)
+    ensures visited { (k : Talk P.Plan) (clock : Source ℤ) (dice : Source (List ℕ)) (held : List ℕ) (stage : Stage)
         → k.limits ≡ limits.now
         → Outcome k (world_at (L.tape link.old) (working C.some_state desk.old (books_of shelf.old) clock dice)
-        held greeted (Visits tokens.now)) (L.tape link.new)
-        (working C.some_state desk.new (books_of shelf.new) clock dice) held greeted (Visits []) 0 result }
+        held stage (Visits tokens.now)) (L.tape link.new)
+        (working C.some_state desk.new (books_of shelf.new) clock dice) held stage (Visits []) 0 result }
 {
     let mut place = 0;
     while let Some(token) = tokens.get(place) {
