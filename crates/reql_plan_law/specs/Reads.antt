@@ -1,7 +1,7 @@
 -- Which tables a request reads before it is evaluated, which functions may name none, and whether it asks for the moment.
 use Rattle.std.specs.Prelude.{ℕ, ℤ, pos, List, [], ◌∷◌, ◌++◌, drop, Option, Some, None, Bool, true, false, ◌&&◌, ◌||◌, if◌then◌else◌, nat_lt, nat_eq, Ok}
 use Rattle.reql_datum.specs.Answer.{Answer, ◌>>=◌}
-use Rattle.reql_datum.specs.Plain.{Plain, array, time}
+use Rattle.reql_datum.specs.Plain.{Plain, array, object, time}
 use Rattle.reql_term.specs.Form.{Form, literal, several, keyed, variable, implicit, function, slot, operation, Forms, no_forms, form, NamedForms, no_named, named}
 use Rattle.reql_term.specs.declared.op.Op.{Op}
 use Rattle.reql_term.specs.declared.op.Op.TheVariants as op
@@ -148,12 +148,13 @@ now_rule moment (operation o fs ms) = Ok (at_now (is_now o) moment)
 now_rule moment f = Ok None
 
 -- ---- an element of a FOR_EACH in the place of its variable, and of the parameter of the nearest function of one
-abbrev pub is_array : Plain → Bool
-is_array (array ds) = true
-is_array d = false
+abbrev pub is_compound : Plain → Bool
+is_compound (array ds) = true
+is_compound (object ms) = true
+is_compound d = false
 
--- an array is held against the array limit where it is evaluated, as the value of a variable is: it is what a function gives that gives its
--- parameter. A literal isn't held against it
+-- An array or an object is what a function gives that gives its parameter, as the value of a variable is: so an array is held against the
+-- array limit where it is evaluated, and an object is no constant, which FILTER would take for a pattern.
 abbrev pub returned : Plain → Form
 returned d = operation op.Funcall (form (function (0 ∷ []) (variable 0)) (form (literal d) no_forms)) no_named
 
@@ -162,7 +163,7 @@ element_by true d = returned d
 element_by false d = literal d
 
 abbrev pub element_term : Plain → Form
-element_term d = element_by (is_array d) d
+element_term d = element_by (is_compound d) d
 
 abbrev pub unless_bound : Bool → Form → Option Form
 unless_bound true f = Some f

@@ -5,7 +5,7 @@ ghost use Rattle.reql_datum.specs.View.{plain};
 ghost use Rattle.reql_term.specs.Form.{function, variable};
 ghost use Rattle.reql_term.specs.View.{form_of};
 ghost use Rattle.reql_faults.specs.Faults.{is_bound as is_bound_of, is_one as is_one_of};
-ghost use Rattle.reql_plan_law.specs.Reads.{is_array as is_array_of, returned as returned_of, element_term as element_term_of, unless_bound, variable_rule, parameter_rule, with_element as with_element_of};
+ghost use Rattle.reql_plan_law.specs.Reads.{is_compound as is_compound_of, returned as returned_of, element_term as element_term_of, unless_bound, variable_rule, parameter_rule, with_element as with_element_of};
 
 use reql_datum::{Datum, Fault, Memory};
 use reql_rewrite::{Rule, rewrite};
@@ -84,21 +84,23 @@ fn element_if(alloc: Global, is_it: bool, element: &Datum) -> Result<Option<Term
     Ok(None)
 }
 
-// The element as a term: an array so that it is held against the array limit.
+// The element as a term: an array so that it is held against the array limit, and an object so that
+// it is no constant.
 fn element_term(alloc: Global, element: &Datum) -> Result<Term, Memory>
     ensures { IfOk result (λ t. form_of t ≡ element_term_of (plain element.now)) }
 {
-    if is_array(element) {
+    if is_compound(element) {
         return returned(alloc, element);
     }
     Ok(Term::Lit(element.copy()?))
 }
 
-fn is_array(element: &Datum) -> bool
-    ensures { result ≡ is_array_of (plain element.now) }
+fn is_compound(element: &Datum) -> bool
+    ensures { result ≡ is_compound_of (plain element.now) }
 {
     match element {
         Datum::List(_) => true,
+        Datum::Obj(_) => true,
         _ => false,
     }
 }
