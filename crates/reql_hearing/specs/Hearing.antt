@@ -1,9 +1,8 @@
 -- What one receive does, before and after the greeting was whole.
-use Rattle.std.specs.Prelude.{◌≡◌, ◌≤◌, ℕ, List, [], ◌++◌, length, drop, Bool, true}
+use Rattle.std.specs.Prelude.{◌≡◌, ◌≤◌, ℕ, List, [], ◌++◌, length, drop, true}
 use Rattle.reql_outside.specs.Tape.{Tape, Moves, recv_failed}
 use Rattle.reql_wire.specs.Greeting.{Listening, Greets}
 use Rattle.reql_wire.specs.declared.greeter.Greeting.TheVariants as greeting
-use Rattle.reql_wire.specs.declared.greeter.GreetFault.{GreetFault}
 use Rattle.reql_hearing.specs.declared.greeting.Heard.{Heard}
 use Rattle.reql_hearing.specs.declared.greeting.Heard.TheVariants as heard
 use Rattle.reql_hearing.specs.declared.receiving.Received.{Received}
@@ -30,6 +29,7 @@ abbrev pub Hears : Tape → Tape → ℕ → Listening → Listening → List �
 Hears old new room g h held heard.Idle = IsIdle old new × (h ≡ g) × (held ≡ [])
 Hears old new room g h held heard.More = (piece : List ℕ) × Came old new room piece × (h.heard ≡ g.heard ++ piece) × Greets g.key (g.heard ++ piece) greeting.More × (held ≡ [])
 Hears old new room g h held heard.Accepted = (piece : List ℕ) × (used : ℕ) × Came old new room piece × Greets g.key (g.heard ++ piece) (greeting.Accepted used) × (drop used (g.heard ++ piece) ≡ held)
+Hears old new room g h held heard.Called = (piece : List ℕ) × Came old new room piece × Greets g.key (g.heard ++ piece) (greeting.Login 4) × (drop 4 (g.heard ++ piece) ≡ held)
 Hears old new room g h held (heard.Refused fault) = (piece : List ℕ) × Came old new room piece × Greets g.key (g.heard ++ piece) (greeting.Refused fault)
 Hears old new room g h held heard.Lost = (piece : List ℕ) × Came old new room piece
 Hears old new room g h held heard.Over = IsOver old new × (h ≡ g) × (held ≡ [])

@@ -15,6 +15,8 @@ pub enum Heard {
     More,
     /// A piece came with which the greeting is whole. What follows it is held for the first frame.
     Accepted,
+    /// A piece came with which the version of a login is whole. What follows it is held for the first message.
+    Called,
     /// A piece came with which the greeting is refused.
     Refused(GreetFault),
     /// A piece came with which the greeting is whole, and there was no memory for what follows it.
@@ -47,6 +49,13 @@ pub fn hear<L: Link>(
                 Ok(()) => Heard::Accepted,
                 Err(_) => Heard::Lost,
             },
+            Greeting::Login { used } => {
+                let behind = &buf[used..n];
+                match feeder.feed(behind) {
+                    Ok(()) => Heard::Called,
+                    Err(_) => Heard::Lost,
+                }
+            }
             Greeting::Refused(fault) => Heard::Refused(fault),
         },
         Recv::Idle => Heard::Idle,

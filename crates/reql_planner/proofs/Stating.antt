@@ -16,6 +16,7 @@ use Rattle.reql_plan.specs.declared.course.Course.{Course}
 use Rattle.reql_story.specs.Requests as story
 use Rattle.reql_talk.specs.Meant.{found_of, heard_with, next_of}
 use Rattle.reql_talk.specs.declared.moves.Found.{Found}
+use Rattle.reql_story.specs.Tasks.{Keys}
 use Rattle.reql_told.specs.Told.{heard_of, move_of, setting_of, talk}
 use Rattle.reql_planner.specs.Follows.{found_in, heard_in, is_none, is_answer, Follows, MayFollow}
 use Rattle.reql_planner.specs.State.{state_of}
@@ -38,16 +39,16 @@ module _ {V : Type 0} (documents : V → List Document) (indexes : V → Indexes
       = ap (λ (ys : List (Found V × Unit {0})). found_in documents indexes ys) seen ∙ found_one xs x in
       λ i. record { plan = plan i; noreply = (setting i).noreply; count = (setting i).opened; found = found i }
 
-  pub moves : (key : List ℕ) (limits : Limits) (p : Plan) (s : Setting) (xs : List (Found V × Unit {0})) (n : Next) (m : story.Move) → setting_of limits s.noreply s.opened ≡ s
-      → n ≡ plan_next p s (heard_in documents indexes xs) → m ≡ move_of n → m ≡ next_of (talk key limits) (state_of documents indexes p s xs)
-  moves key limits p s xs n m same goes is = is ∙ ap move_of (goes ∙ ap (λ (t : Setting). plan_next p t (heard_in documents indexes xs)) (sym same))
+  pub moves : (keys : Keys) (limits : Limits) (p : Plan) (s : Setting) (xs : List (Found V × Unit {0})) (n : Next) (m : story.Move) → setting_of limits s.noreply s.opened ≡ s
+      → n ≡ plan_next p s (heard_in documents indexes xs) → m ≡ move_of n → m ≡ next_of (talk keys limits) (state_of documents indexes p s xs)
+  moves keys limits p s xs n m same goes is = is ∙ ap move_of (goes ∙ ap (λ (t : Setting). plan_next p t (heard_in documents indexes xs)) (sym same))
 
-  by_none : (key : List ℕ) (limits : Limits) (p : Plan) (s : Setting) (xs : List (Found V × Unit {0})) → is_none xs ≡ true → story.LookNames ≡ next_of (talk key limits) (state_of documents indexes p s xs)
-  by_none key limits p s [] is = refl
-  by_none key limits p s (x ∷ xs) is = absurd (let f : false ≡ true = is in cc)
+  by_none : (keys : Keys) (limits : Limits) (p : Plan) (s : Setting) (xs : List (Found V × Unit {0})) → is_none xs ≡ true → story.LookNames ≡ next_of (talk keys limits) (state_of documents indexes p s xs)
+  by_none keys limits p s [] is = refl
+  by_none keys limits p s (x ∷ xs) is = absurd (let f : false ≡ true = is in cc)
 
-  pub begun : (key : List ℕ) (limits : Limits) (p : Plan) (s : Setting) (xs : List (Found V × Unit {0})) (b : Bool) → b ≡ true → b ≡ is_none xs → story.LookNames ≡ next_of (talk key limits) (state_of documents indexes p s xs)
-  begun key limits p s xs b is none = by_none key limits p s xs (sym none ∙ is)
+  pub begun : (keys : Keys) (limits : Limits) (p : Plan) (s : Setting) (xs : List (Found V × Unit {0})) (b : Bool) → b ≡ true → b ≡ is_none xs → story.LookNames ≡ next_of (talk keys limits) (state_of documents indexes p s xs)
+  begun keys limits p s xs b is none = by_none keys limits p s xs (sym none ∙ is)
 
 pub grown : {A : Type 0} (xs : List A) (x : A) → false ≡ is_none (xs ++ x ∷ [])
 grown [] x = refl

@@ -34,16 +34,16 @@ impl<C> QueryPlanner<C> {
 }
 
 impl<C> Planning for QueryPlanner<C> {
-    ghost use Rattle.reql_told.specs.Told.{talk, comes_by};
+    ghost use Rattle.reql_told.specs.Told.{keys_by, talk, comes_by};
     ghost use Rattle.reql_told.specs.Minding.{plans_are_told};
 
     type Plan = Plan;
 
-    ghost talk = { λ p. talk p.plans.key.items p.plans.limits };
+    ghost talk = { λ p. talk (keys_by p.plans.key.items p.plans.password.items) p.plans.limits };
 
     ghost on = { λ p. comes_by p.plans.limits };
 
-    ghost minds = { λ p. plans_are_told p.plans.key.items p.plans.limits };
+    ghost minds = { λ p. plans_are_told (keys_by p.plans.key.items p.plans.password.items) p.plans.limits };
 }
 
 impl<C: TableEngine> Planner for QueryPlanner<C>
@@ -51,7 +51,7 @@ where
     C::View: Drop,
 {
     ghost use Rattle.reql_talk.specs.Meant.{heard_with, found_of, move_of, next_of};
-    ghost use Rattle.reql_told.specs.Told.{talk};
+    ghost use Rattle.reql_told.specs.Told.{keys_by, talk};
     ghost use Rattle.reql_planner.specs.State.{state_of};
 
     type View = C::View;
@@ -62,6 +62,10 @@ where
 
     fn key(&self) -> &[u8] {
         self.plans.key.as_slice()
+    }
+
+    fn password(&self) -> &[u8] {
+        self.plans.password.as_slice()
     }
 
     fn limits(&self) -> &Limits {
@@ -102,7 +106,7 @@ where
             (state_of C.View.documents C.View.indexes course.old.plan.value course.old.setting
             course.old.seen.items) }
         ensures goes { IfOk result (λ move. move_of move
-            ≡ next_of (talk self.now.plans.key.items self.now.plans.limits)
+            ≡ next_of (talk (keys_by self.now.plans.key.items self.now.plans.password.items) self.now.plans.limits)
             (state_of C.View.documents C.View.indexes course.new.plan.value course.new.setting
             course.new.seen.items)) }
     {

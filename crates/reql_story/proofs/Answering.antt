@@ -16,7 +16,7 @@ use Rattle.reql_write_law.specs.declared.command.Summary.{Summary}
 use Rattle.reql_story.specs.Requests.{Asked, Unreadable, Unplanned, Start, Continue, Stop, NoreplyWait, ServerInfo, Arm, Shown, Answered, Unsent, One, Stream, Feed, Fault, Wanting, Move, Ends, Found, Answer, Internal, Last}
 use Rattle.reql_story.specs.Books.{Cursor, Open, Books, has_token, without, cursor_of, feed_of, is_open, closed, with_rest, with_left, with_cursor, with_feed, waits, saw_names}
 use Rattle.reql_story.specs.Tasks.{Talk, Firm, Stops, Drops, Settled, Task, Planning, Visiting, Telling, Closing, Next, done, at, only_tell, close, wanted, denied, told, stop_feed, stop, is_long, cut, tell, comes_to, continue_cursor, continue_left, continue_feed, continue_on, visit_feed, visit, refuse, begin, takes_up, next_arm, batch_of, gone, took_said, took, ran, found_more, Runs, Asks, batch_size, is_empty, skipped_item, change_items, cut_to, fitted, others, arms_denied}
-use Rattle.reql_story.specs.Session.{Event, Turn, Visit, Greeted, Begin, Heard, Lost, Quiet, Finish, Broken, Long, Wear, Poor, On, OnNames, Dice, Clock, Come, Say, Want, Doing, Rest, Visits, Busy, Leaving, Mach, fresh, Step, Run, doing_next, goes_on, Plans, PlanDenied, LeavesArm}
+use Rattle.reql_story.specs.Session.{Event, Turn, Visit, Greeted, Login, Cast, Begin, Heard, Lost, Quiet, Finish, Broken, Long, Wear, Poor, On, OnNames, Dice, Clock, Come, Say, Want, Doing, Rest, Visits, Busy, Leaving, Mach, fresh, Step, Run, doing_next, goes_on, Plans, PlanDenied, LeavesArm}
 use Rattle.reql_story.specs.Minding.{PlansMind}
 use Rattle.reql_story.specs.Answering as answering
 use Rattle.reql_story.specs.Answering.{same, times, said_of, wants, wants_answer, wanted_of, IsStill, Answers, EachIsAnswered}
@@ -493,6 +493,19 @@ module _ (t : ℕ) where
       step_fair m n (Greeted false) s h =
           let f = held_at m (Visits []) s.0 h in
           elim s.2 [ inl g ↦ moves m n _ (Visits []) s.0 g.4 f (omega arith) | inr g ↦ moves m n _ (Visits []) s.0 g.4 f (omega arith) ]
+      step_fair m n (Login true) s h =
+          let f = held_at m (Visits []) s.0 h in
+          elim s.2 [
+            | inl g ↦ moves m n _ (Visits []) s.0 g.5 f (omega arith)
+            | inr r ↦ elim r [ inl g ↦ moves m n _ (Visits []) s.0 g.4 f (omega arith) | inr g ↦ moves m n _ (Visits []) s.0 g.3 f (omega arith) ]
+          ]
+      step_fair m n (Login false) s h =
+          let f = held_at m (Visits []) s.0 h in
+          elim s.2 [
+            | inl g ↦ moves m n _ (Visits []) s.0 g.5 f (omega arith)
+            | inr r ↦ elim r [ inl g ↦ moves m n _ (Visits []) s.0 g.4 f (omega arith) | inr g ↦ moves m n _ (Visits []) s.0 g.3 f (omega arith) ]
+          ]
+      step_fair m n (Cast bytes) s h = moves m n _ (Visits []) s.0 s.2 (held_at m (Visits []) s.0 h) refl
       step_fair m n (Begin frame is_read) s h =
           let f = held_at m (Visits []) s.1 h in
           goes_fair m n (record m { held = s.0 }) None (takes_up k m.books frame.token frame.body is_read) (w m.books + wanted_of k t (Begin frame is_read)) (wanted_of k t (Begin frame is_read)) 0 s.5
@@ -506,7 +519,10 @@ module _ (t : ℕ) where
       step_fair m n Wear s h = moves m n _ Rest s.0 s.1 (held_at m Rest s.0 h) refl
       step_fair m n Poor s h = elim s.0 [
         | inl d ↦ moves m n _ (Visits []) d.0 s.1 (held_at m (Visits []) d.0 h) (omega arith)
-        | inr d ↦ moves m n _ Rest d.0 s.1 (held_at m Rest d.0 h) refl
+        | inr x ↦ elim x [
+          | inl d ↦ moves m n _ Rest d.0 s.1 (held_at m Rest d.0 h) refl
+          | inr d ↦ moves m n _ (Visits []) d.0 s.1 (held_at m (Visits []) d.0 h) (omega arith)
+        ]
       ]
       step_fair m n (On slot (Ran place order reply) saved) s h = elim s [
         | inl x ↦ (let f = held_at m (Busy x.back x.task) x.doing h in on m n x.back x.task _ x.doing x.goes (ran_good m.books x.task slot order reply saved (due_back x.back) f.0 f.1 x.runs))

@@ -28,7 +28,7 @@ use Rattle.reql_write_law.specs.declared.command.Summary.{Summary}
 use Rattle.reql_story.specs.Requests.{Asked, Unreadable, Unplanned, Start, Continue, Stop, NoreplyWait, ServerInfo, Arm, Shown, Answered, Unsent, One, Stream, Feed, Fault, Wanting, Move, Ends, Found, SawNames, Clocked, SawSlot, RanSlot, ChangedNames, Rolled, Answer, Internal, Last}
 use Rattle.reql_story.specs.Books.{Cursor, Open, Books, has_token, cursor_of, feed_of, is_open, opened, closed, with_rest, with_left, with_cursor, with_feed, saw_names, all_arms}
 use Rattle.reql_story.specs.Tasks.{Talk, Firm, Stops, Drops, Settled, Task, Planning, Visiting, Telling, Closing, Next, at, close, wanted, denied, told, stop_feed, stop, is_long, cut, tell, comes_to, continue_cursor, continue_left, continue_feed, continue_on, visit_feed, visit, refuse, begin, takes_up, next_arm, batch_of, gone, took_said, took, ran, found_more, Runs, Asks, batch_size, is_empty, skipped_item, change_items, cut_to, others, arms_said, arms_after, arms_denied}
-use Rattle.reql_story.specs.Session.{Event, Turn, Visit, Greeted, Begin, Heard, Lost, Quiet, Finish, Broken, Long, Wear, Poor, On, OnNames, Dice, Clock, Come, Say, Want, Doing, Rest, Visits, Busy, Leaving, Mach, fresh, Step, Run, acts_of, acts_on, doing_next, goes_on, Plans, PlanDenied}
+use Rattle.reql_story.specs.Session.{Event, Turn, Visit, Greeted, Login, Cast, Begin, Heard, Lost, Quiet, Finish, Broken, Long, Wear, Poor, On, OnNames, Dice, Clock, Come, Say, Want, Doing, Rest, Visits, Busy, Leaving, Mach, fresh, Step, Run, acts_of, acts_on, doing_next, goes_on, Plans, PlanDenied}
 use Rattle.reql_story.specs.Minding.{has_arm, places, are_apart, IsOther, PlansMind}
 use Rattle.reql_story.specs.Explained.{DeskShare, Life, Explained}
 use Rattle.reql_story.specs.Arms.{ArmsAreApart}
@@ -375,6 +375,9 @@ module _ {PL : Type 0} (k : Talk PL) (on : PL → Bool → ℕ → List Found �
   step_holds m n Visit q s h = by_next m n (Some s.1) (visit k m.books s.0) s.3 (visit_good m.books s.0 (feed_of s.0 m.books.feeds) h.0)
   step_holds m n (Greeted true) q s h = elim s.2 [ inl g ↦ still n _ g.4 h.0 tt | inr g ↦ still n _ g.4 h.0 tt ]
   step_holds m n (Greeted false) q s h = elim s.2 [ inl g ↦ still n _ g.4 h.0 tt | inr g ↦ still n _ g.4 h.0 tt ]
+  step_holds m n (Login true) q s h = elim s.2 [ inl g ↦ still n _ g.5 h.0 tt | inr r ↦ elim r [ inl g ↦ still n _ g.4 h.0 tt | inr g ↦ still n _ g.3 h.0 tt ] ]
+  step_holds m n (Login false) q s h = elim s.2 [ inl g ↦ still n _ g.5 h.0 tt | inr r ↦ elim r [ inl g ↦ still n _ g.4 h.0 tt | inr g ↦ still n _ g.3 h.0 tt ] ]
+  step_holds m n (Cast bytes) q s h = still n _ s.2 h.0 tt
   step_holds m n (Begin frame is_read) q s h = by_next (record m { held = s.0 }) n None (takes_up k m.books frame.token frame.body is_read) s.5 (takes_up_good m.books frame.token frame.body is_read h.0)
   step_holds m n (Heard bytes) q s h = still n _ s.2 h.0 tt
   step_holds m n (Lost bytes) q s h = still n _ s.2 h.0 tt

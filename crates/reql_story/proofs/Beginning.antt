@@ -10,7 +10,7 @@ use Rattle.reql_law.specs.declared.reply.Saved.{Saved}
 use Rattle.reql_story.specs.Requests.{Arm, Feed, Move, Found, Answer, Internal}
 use Rattle.reql_story.specs.Books.{Open, Books, feed_of, closed, with_feed, saw_names}
 use Rattle.reql_story.specs.Tasks.{Talk, Firm, Stops, Drops, Settled, Task, Planning, Visiting, Telling, Closing, Next, at, only_tell, close, wanted, denied, is_long, cut, cut_to, fitted, tell, comes_to, batch_size, ran, Runs, Asks}
-use Rattle.reql_story.specs.Session.{Event, Turn, Visit, Greeted, Begin, Heard, Lost, Quiet, Finish, Broken, Long, Wear, Poor, On, OnNames, Dice, Clock, Come, Say, Want, Doing, Rest, Visits, Busy, Leaving, Mach, Step, Run, doing_next, goes_on, Plans, PlanDenied, LeavesArm}
+use Rattle.reql_story.specs.Session.{Event, Turn, Visit, Greeted, Login, Cast, Begin, Heard, Lost, Quiet, Finish, Broken, Long, Wear, Poor, On, OnNames, Dice, Clock, Come, Say, Want, Doing, Rest, Visits, Busy, Leaving, Mach, Step, Run, doing_next, goes_on, Plans, PlanDenied, LeavesArm}
 use Rattle.reql_story.specs.Continuing.{IsWithin, IsFree, IsWanting, WasWanted}
 use Rattle.reql_story.specs.Beginning.{feed_from, first_batch, EachBegins}
 use Rattle.reql_story.proofs.Opened.{Others, longer, free_of_feeds}
@@ -157,6 +157,9 @@ module _ {PL : Type 0} (k : Talk PL) (token : ℕ) (A : Answer → Books → Typ
   step_now es m n (Say t a whole) s w h = absurd w
   step_now es m n (Greeted true) s w h = elim s.2 [ inl g ↦ moves es m n (Greeted true) _ g.4 tt | inr g ↦ moves es m n (Greeted true) _ g.4 tt ]
   step_now es m n (Greeted false) s w h = elim s.2 [ inl g ↦ moves es m n (Greeted false) _ g.4 tt | inr g ↦ moves es m n (Greeted false) _ g.4 tt ]
+  step_now es m n (Login true) s w h = elim s.2 [ inl g ↦ moves es m n (Login true) _ g.5 tt | inr r ↦ elim r [ inl g ↦ moves es m n (Login true) _ g.4 tt | inr g ↦ moves es m n (Login true) _ g.3 tt ] ]
+  step_now es m n (Login false) s w h = elim s.2 [ inl g ↦ moves es m n (Login false) _ g.5 tt | inr r ↦ elim r [ inl g ↦ moves es m n (Login false) _ g.4 tt | inr g ↦ moves es m n (Login false) _ g.3 tt ] ]
+  step_now es m n (Cast bytes) s w h = moves es m n (Cast bytes) _ s.2 tt
   step_now es m n (Heard bytes) s w h = moves es m n (Heard bytes) _ s.2 tt
   step_now es m n (Lost bytes) s w h = moves es m n (Lost bytes) _ s.2 tt
   step_now es m n Quiet s w h = moves es m n Quiet _ s.1 tt

@@ -19,7 +19,7 @@ use Rattle.reql_story.specs.Requests.{Continue, Arm, Shown, Move, Found, Answer,
 use Rattle.reql_story.specs.Books.{Open, Books, feed_of, closed, with_left, saw_names}
 use Rattle.reql_story.specs.Bodies.{full, at_wait}
 use Rattle.reql_story.specs.Tasks.{Talk, Firm, Stops, Drops, Settled, Task, Planning, Visiting, Telling, Closing, Next, at, only_tell, close, wanted, denied, is_long, cut, cut_to, fitted, tell, continue_left, continue_feed, continue_on, visit_feed, begin, takes_up, next_arm, batch_of, gone, took_said, took, ran, Runs, Asks, is_empty, skipped_item, change_items, others, take_order, tell_now}
-use Rattle.reql_story.specs.Session.{Event, Turn, Visit, Greeted, Begin, Heard, Lost, Quiet, Finish, Broken, Long, Wear, Poor, On, OnNames, Dice, Clock, Come, Say, Want, Doing, Rest, Visits, Busy, Leaving, Mach, Step, Run, doing_next, goes_on, tells, Plans, PlanDenied, LeavesArm}
+use Rattle.reql_story.specs.Session.{Event, Turn, Visit, Greeted, Login, Cast, Begin, Heard, Lost, Quiet, Finish, Broken, Long, Wear, Poor, On, OnNames, Dice, Clock, Come, Say, Want, Doing, Rest, Visits, Busy, Leaving, Mach, Step, Run, doing_next, goes_on, tells, Plans, PlanDenied, LeavesArm}
 use Rattle.reql_story.specs.Waiting.{IsVisited, IsNothing}
 use Rattle.reql_story.specs.Opened.{Took}
 use Rattle.reql_story.specs.Continuing.{IsWithin, IsFree, TookNothing, TookFirst, IsWanting, IsTaken, TellsItems, IsAnswer, IsItsFirst, EachContinues}
@@ -302,6 +302,9 @@ module _ {PL : Type 0} (k : Talk PL) where
   step_now token feed es m n (Say t a whole) s w h = absurd w
   step_now token feed es m n (Greeted true) s w h = elim s.2 [ inl g ↦ moves token feed es m n (Greeted true) _ g.4 tt | inr g ↦ moves token feed es m n (Greeted true) _ g.4 tt ]
   step_now token feed es m n (Greeted false) s w h = elim s.2 [ inl g ↦ moves token feed es m n (Greeted false) _ g.4 tt | inr g ↦ moves token feed es m n (Greeted false) _ g.4 tt ]
+  step_now token feed es m n (Login true) s w h = elim s.2 [ inl g ↦ moves token feed es m n (Login true) _ g.5 tt | inr r ↦ elim r [ inl g ↦ moves token feed es m n (Login true) _ g.4 tt | inr g ↦ moves token feed es m n (Login true) _ g.3 tt ] ]
+  step_now token feed es m n (Login false) s w h = elim s.2 [ inl g ↦ moves token feed es m n (Login false) _ g.5 tt | inr r ↦ elim r [ inl g ↦ moves token feed es m n (Login false) _ g.4 tt | inr g ↦ moves token feed es m n (Login false) _ g.3 tt ] ]
+  step_now token feed es m n (Cast bytes) s w h = moves token feed es m n (Cast bytes) _ s.2 tt
   step_now token feed es m n (Heard bytes) s w h = moves token feed es m n (Heard bytes) _ s.2 tt
   step_now token feed es m n (Lost bytes) s w h = moves token feed es m n (Lost bytes) _ s.2 tt
   step_now token feed es m n Quiet s w h = moves token feed es m n Quiet _ s.1 tt
@@ -362,6 +365,8 @@ module _ {PL : Type 0} (k : Talk PL) where
   starts m n token feed (Begin frame false) t i its s = absurd t
   starts m n token feed Turn t i its s = absurd t
   starts m n token feed (Greeted whole) t i its s = absurd t
+  starts m n token feed (Login whole) t i its s = absurd t
+  starts m n token feed (Cast bytes) t i its s = absurd t
   starts m n token feed (Heard bytes) t i its s = absurd t
   starts m n token feed (Lost bytes) t i its s = absurd t
   starts m n token feed Quiet t i its s = absurd t

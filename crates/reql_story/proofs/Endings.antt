@@ -21,7 +21,7 @@ use Rattle.reql_story.specs.Books.{Cursor, Open, Books, has_token, cursor_of, fe
 use Rattle.reql_story.specs.Tasks.{Talk, Firm, Stops, Drops, Settled, Task, Planning, Visiting, Telling, Closing, Next, done, at, only_tell, close, internal_for, wanted, denied, told, stop_feed, stop, is_long, cut, tell, tell_now, comes_to, continue_cursor, continue_left, continue_feed, continue_on, visit_feed, visit, refuse, begin, takes_up, next_arm, batch_of, gone, took_said, took, ran, found_more, Runs, Asks, batch_size, is_empty, skipped_item, change_items, cut_to, fitted, others, arms_denied}
 use Rattle.reql_story.specs.Bodies.{full}
 use Rattle.reql_story.specs.Minding.{PlansMind}
-use Rattle.reql_story.specs.Session.{Event, Turn, Visit, Greeted, Begin, Heard, Lost, Quiet, Finish, Broken, Long, Wear, Poor, On, OnNames, Dice, Clock, Come, Say, Want, Doing, Rest, Visits, Busy, Mach, fresh, Step, Run, doing_next, goes_on}
+use Rattle.reql_story.specs.Session.{Event, Turn, Visit, Greeted, Login, Cast, Begin, Heard, Lost, Quiet, Finish, Broken, Long, Wear, Poor, On, OnNames, Dice, Clock, Come, Say, Want, Doing, Rest, Visits, Busy, Mach, fresh, Step, Run, doing_next, goes_on}
 use Rattle.reql_story.specs.Owed.{task_keeps, keeps, IsHere}
 use Rattle.reql_story.specs.Printed.{IsOpenAt}
 use Rattle.reql_story.specs.Endings.{IsFault, BeginsNone, IsStopped, Ends, TaskEnds, DoingEnds, EventEnds, FeedsEnd, DoingFaults, FeedsOpen}
@@ -426,6 +426,12 @@ module _ {PL : Type 0} (k : Talk PL) (τ : ℕ) where
     | inr g ↦ leaving es m n (Greeted true) _ g.4 tt (λ here. here)
   ]
   step_goes es m n (Greeted false) lone f s = elim s.2 [ inl g ↦ leaving es m n (Greeted false) _ g.4 tt (λ here. here) | inr g ↦ leaving es m n (Greeted false) _ g.4 tt (λ here. here) ]
+  step_goes es m n (Login true) lone f s = elim s.2 [
+    | inl g ↦ settled es m n (Login true) _ g.5 tt (λ w. was_at es m n (Login true) (Visits []) s.0 w)
+    | inr r ↦ elim r [ inl g ↦ settled es m n (Login true) _ g.4 tt (λ w. was_at es m n (Login true) (Visits []) s.0 w) | inr g ↦ leaving es m n (Login true) _ g.3 tt (λ here. here) ]
+  ]
+  step_goes es m n (Login false) lone f s = elim s.2 [ inl g ↦ leaving es m n (Login false) _ g.5 tt (λ here. here) | inr r ↦ elim r [ inl g ↦ leaving es m n (Login false) _ g.4 tt (λ here. here) | inr g ↦ leaving es m n (Login false) _ g.3 tt (λ here. here) ] ]
+  step_goes es m n (Cast bytes) lone f s = settled es m n (Cast bytes) _ s.2 tt (λ w. was_at es m n (Cast bytes) (Visits []) s.0 w)
   step_goes es m n (Begin frame true) lone f s =
       by_next es m n (Begin frame true) (record m { held = s.0 }) None (takes_up k m.books frame.token frame.body true) s.5
       (begin_good k τ (es ++ Begin frame true ∷ []) (was es m n (Begin frame true)) m.books frame.token (k.asked frame.body) (lone [] s.1) (up_visits es m n (Begin frame true) [] s.1)

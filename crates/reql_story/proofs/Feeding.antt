@@ -34,7 +34,7 @@ use Rattle.reql_law.proofs.Weaves.{woven_known, feeds_fold, takes_tell, takes_li
 use Rattle.reql_story.specs.Requests.{Arm, Sort, Opening, State as StateItem, Skip, Change, Shown, Answer, Client, Compile, Failed, Internal, Atom, Last, Part as PartOf, Batch, Waited, Info, Found}
 use Rattle.reql_story.specs.Tasks.{Talk}
 use Rattle.reql_story.specs.Minding.{PlansMind}
-use Rattle.reql_story.specs.Session.{Event, Turn, Visit, Greeted, Begin, Heard, Lost, Quiet, Finish, Broken, Long, Wear, Poor, On, OnNames, Dice, Clock, Come, Say, Want, Run, fresh, acts_of, acts_on}
+use Rattle.reql_story.specs.Session.{Event, Turn, Visit, Greeted, Login, Cast, Begin, Heard, Lost, Quiet, Finish, Broken, Long, Wear, Poor, On, OnNames, Dice, Clock, Come, Say, Want, Run, fresh, acts_of, acts_on}
 use Rattle.reql_story.specs.Explained.{DeskShare, DeskSeen, Life, if_change, changes_in, sent_in, sent_by, sent_of, if_told, told_items, told_in, told_by, all_told, taken_in, all_taken}
 use Rattle.reql_story.specs.Laws.{Opens, items_after, SendsSkips}
 use Rattle.reql_story.proofs.Sendings.{NotOpened}
@@ -79,6 +79,8 @@ module _ (σ φ : ℕ) where
   same_event Turn = refl
   same_event Visit = refl
   same_event (Greeted w) = refl
+  same_event (Login w) = refl
+  same_event (Cast bytes) = refl
   same_event (Begin frame is_read) = refl
   same_event (Heard bytes) = refl
   same_event (Lost bytes) = refl

@@ -24,7 +24,7 @@ use Rattle.reql_story.specs.Requests.{Arm, Found, SawNames, Clocked, SawSlot, Ch
 use Rattle.reql_story.specs.Books.{Books, saw_names}
 use Rattle.reql_story.specs.Tasks.{Talk, Task, Planning, Visiting, Telling, Closing, Next, Runs, visit, takes_up, batch_size, ran, wanted, denied, told, found_more, comes_to, close_order, take_order}
 use Rattle.reql_story.specs.Minding.{PlansMind}
-use Rattle.reql_story.specs.Session.{Event, Turn, Visit, Greeted, Begin, Heard, Lost, Quiet, Finish, Broken, Long, Wear, Poor, On, OnNames, Dice, Clock, Come, Say, Want, Doing, Rest, Visits, Busy, Leaving, Mach, fresh, doing_next, goes_on, Step, Run, acts_on}
+use Rattle.reql_story.specs.Session.{Event, Turn, Visit, Greeted, Login, Cast, Begin, Heard, Lost, Quiet, Finish, Broken, Long, Wear, Poor, On, OnNames, Dice, Clock, Come, Say, Want, Doing, Rest, Visits, Busy, Leaving, Mach, fresh, doing_next, goes_on, Step, Run, acts_on}
 use Rattle.reql_story.specs.Explained.{told_in, told_by, all_told, taken_in, all_taken}
 use Rattle.reql_story.proofs.Shelves.{which}
 use Rattle.reql_story.proofs.Tellings.{F, Clean, OkTask, OkOption, OkNext, ok_wanted, ok_denied, ok_told, ok_visit, ok_comes, ok_takes_up}
@@ -99,6 +99,12 @@ module _ {PL : Type 0} (k : Talk PL) (on : PL → Bool → ℕ → List Found �
       | inr g ↦ keeps c n _ p g.4 tt
     ]
     step_ok c m n (Greeted false) p o s h = elim s.2 [ inl g ↦ keeps c n _ p g.4 tt | inr g ↦ keeps c n _ p g.4 tt ]
+    step_ok c m n (Login true) p o s h = elim s.2 [
+      | inl g ↦ keeps c n _ p g.5 (at_doing c m (Visits []) p s.0 o)
+      | inr r ↦ elim r [ inl g ↦ keeps c n _ p g.4 (at_doing c m (Visits []) p s.0 o) | inr g ↦ keeps c n _ p g.3 tt ]
+    ]
+    step_ok c m n (Login false) p o s h = elim s.2 [ inl g ↦ keeps c n _ p g.5 tt | inr r ↦ elim r [ inl g ↦ keeps c n _ p g.4 tt | inr g ↦ keeps c n _ p g.3 tt ] ]
+    step_ok c m n (Cast bytes) p o s h = keeps c n _ p s.2 (at_doing c m (Visits []) p s.0 o)
     step_ok c m n (Begin frame is_read) p o s h = keeps c n _ p s.5 (ok_goes c (record m { held = s.0 }) None (takes_up k m.books frame.token frame.body is_read) p (ok_takes_up k on σ φ skips c well m.books frame.token frame.body is_read p (at_doing c m (Visits []) p s.1 o)))
     step_ok c m n (Heard bytes) p o s h = keeps c n _ p s.2 (at_doing c m (Visits []) p s.0.0 o)
     step_ok c m n (Lost bytes) p o s h = keeps c n _ p s.2 tt
@@ -169,6 +175,8 @@ module _ {PL : Type 0} (k : Talk PL) (on : PL → Bool → ℕ → List Found �
     takings_step Turn es = refl
     takings_step Visit es = refl
     takings_step (Greeted w) es = refl
+    takings_step (Login w) es = refl
+    takings_step (Cast bytes) es = refl
     takings_step (Begin frame is_read) es = refl
     takings_step (Heard bytes) es = refl
     takings_step (Lost bytes) es = refl

@@ -171,8 +171,8 @@ module _ {PL : Type 0} (k : Talk PL) where
   }
 
   -- the arms are closed after the end
-  pub ends_closing : (t u : Tape) (x y z : Place PL) (c : List (Option ℤ)) (a : List (Option (List ℕ))) (end : End) (arms left : List Arm) (n : ℕ) → Ended k t u x y c a end arms n → Does k y z [] → z.now.doing ≡ Leaving left end → z.now.held ≡ y.now.held → Ended k t u x z c a end left n
-  ends_closing t u x y z c a end arms left n p q l h = record {
+  pub ends_closing : (t u : Tape) (x y z : Place PL) (c : List (Option ℤ)) (a : List (Option (List ℕ))) (end : End) (arms left : List Arm) (n : ℕ) → Ended k t u x y c a end arms n → Does k y z [] → z.now.doing ≡ Leaving left end → z.now.held ≡ y.now.held → z.now.greeted ≡ y.now.greeted → Ended k t u x z c a end left n
+  ends_closing t u x y z c a end arms left n p q l h g = record {
     events = p.events ++ q.events;
     said = p.said;
     run = λ out. subst (λ o. Run k (with_out out x.now) (p.events ++ q.events) (with_out (out ++ o) z.now)) (append-nil p.said) (runs_on x.now y.now z.now p.events q.events p.said [] p.run q.run out);
@@ -182,7 +182,7 @@ module _ {PL : Type 0} (k : Talk PL) where
     still = p.still ∙ ap (λ b. b || t.over) (sym (over_append p.events q.events ∙ (λ i. over p.events || q.still i) ∙ or_nothing (over p.events)));
     clock = flat_map-append clocked_of p.events q.events ∙ (λ i. p.clock i ++ q.clock i) ∙ append-nil c;
     dice = flat_map-append rolled_of p.events q.events ∙ (λ i. p.dice i ++ q.dice i) ∙ append-nil a;
-    why = subst (λ b. Why k end b u.over) (sym h) p.why;
+    why = subst (λ s. Why k end s z.now.held u.over) (sym g) (subst (λ b. Why k end y.now.greeted b u.over) (sym h) p.why);
     plays = plays_on x y z p.events q.events p.plays q.plays;
     count = turns_append p.events q.events ∙ (λ i. p.count i + q.turn i) ∙ plus_nothing n;
   }

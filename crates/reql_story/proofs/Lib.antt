@@ -9,13 +9,16 @@ pub mod Feeding
 pub mod Fronts
 pub mod Going
 pub mod Idling
+pub mod Messages
 pub mod Opened
 pub mod Orders
 pub mod Owed
+pub mod Passing
 pub mod Placed
 pub mod Printed
 pub mod Overs
 pub mod Rests
+pub mod Rolling
 pub mod Sendings
 pub mod Shelves
 pub mod Staying

@@ -19,7 +19,7 @@ use Rattle.reql_write_law.specs.declared.command.Summary.{Summary}
 use Rattle.reql_story.specs.Requests.{Asked, Unreadable, Unplanned, Start, Continue, Stop, NoreplyWait, ServerInfo, Arm, Shown, Answered, Unsent, One, Stream, Feed, Fault, Wanting, Move, Ends, Found, SawNames, Clocked, SawSlot, RanSlot, ChangedNames, Rolled, Answer, Internal, Last}
 use Rattle.reql_story.specs.Books.{Cursor, Open, Books, has_token, cursor_of, feed_of, is_open, opened, closed, with_rest, with_left, with_cursor, with_feed, saw_names}
 use Rattle.reql_story.specs.Tasks.{Talk, Firm, Stops, Drops, Settled, Task, Planning, Visiting, Telling, Closing, Next, at, close, wanted, denied, told, stop_feed, stop, is_long, cut, tell, comes_to, continue_cursor, continue_left, continue_feed, continue_on, visit_feed, visit, refuse, begin, takes_up, next_arm, batch_of, gone, took_said, took, ran, found_more, Runs, Asks, batch_size, is_empty, skipped_item, change_items, cut_to, others, arms_denied, take_order}
-use Rattle.reql_story.specs.Session.{Event, Turn, Visit, Greeted, Begin, Heard, Lost, Quiet, Finish, Broken, Long, Wear, Poor, On, OnNames, Dice, Clock, Come, Say, Want, Doing, Rest, Visits, Busy, Leaving, Mach, fresh, Step, Run, begun, begun_of, doing_next, goes_on, Plans, PlanDenied, LeavesArm}
+use Rattle.reql_story.specs.Session.{Event, Turn, Visit, Greeted, Login, Cast, Begin, Heard, Lost, Quiet, Finish, Broken, Long, Wear, Poor, On, OnNames, Dice, Clock, Come, Say, Want, Doing, Rest, Visits, Busy, Leaving, Mach, fresh, Step, Run, begun, begun_of, doing_next, goes_on, Plans, PlanDenied, LeavesArm}
 use Rattle.reql_story.specs.Opened.{IsPlanned, IsOpened, EachIsOpened, IsTail, IsGiven, TookArm, AreApart, found_by, found_in}
 use Rattle.reql_story.proofs.Shelves.{all_filter, which, or_false, found_token}
 
@@ -455,6 +455,9 @@ module _ {PL : Type 0} (k : Talk PL) where
   step_all es m n Visit r s h = on es m n Visit m (Some s.1) (visit k m.books s.0) s.3 (visit_good k (Its (es ++ Visit ∷ [])) (Plan (es ++ Visit ∷ [])) (opened_with (es ++ Visit ∷ [])) m.books s.0 (feed_of s.0 m.books.feeds) refl (all_still m.books.feeds es Visit h.0.0, h.0.1))
   step_all es m n (Greeted true) r s h = elim s.2 [ inl g ↦ still es m n (Greeted true) _ g.4 (all_still m.books.feeds es (Greeted true) h.0.0, h.0.1) tt | inr g ↦ still es m n (Greeted true) _ g.4 (all_still m.books.feeds es (Greeted true) h.0.0, h.0.1) tt ]
   step_all es m n (Greeted false) r s h = elim s.2 [ inl g ↦ still es m n (Greeted false) _ g.4 (all_still m.books.feeds es (Greeted false) h.0.0, h.0.1) tt | inr g ↦ still es m n (Greeted false) _ g.4 (all_still m.books.feeds es (Greeted false) h.0.0, h.0.1) tt ]
+  step_all es m n (Login true) r s h = elim s.2 [ inl g ↦ still es m n (Login true) _ g.5 (all_still m.books.feeds es (Login true) h.0.0, h.0.1) tt | inr u ↦ elim u [ inl g ↦ still es m n (Login true) _ g.4 (all_still m.books.feeds es (Login true) h.0.0, h.0.1) tt | inr g ↦ still es m n (Login true) _ g.3 (all_still m.books.feeds es (Login true) h.0.0, h.0.1) tt ] ]
+  step_all es m n (Login false) r s h = elim s.2 [ inl g ↦ still es m n (Login false) _ g.5 (all_still m.books.feeds es (Login false) h.0.0, h.0.1) tt | inr u ↦ elim u [ inl g ↦ still es m n (Login false) _ g.4 (all_still m.books.feeds es (Login false) h.0.0, h.0.1) tt | inr g ↦ still es m n (Login false) _ g.3 (all_still m.books.feeds es (Login false) h.0.0, h.0.1) tt ] ]
+  step_all es m n (Cast bytes) r s h = still es m n (Cast bytes) _ s.2 (all_still m.books.feeds es (Cast bytes) h.0.0, h.0.1) tt
   step_all es m n (Begin frame true) r s h =
       on es m n (Begin frame true) (record m { held = s.0 }) None (takes_up k m.books frame.token frame.body true) s.5
       (begin_good k (Its (es ++ (Begin frame true) ∷ [])) (Plan (es ++ (Begin frame true) ∷ [])) (opened_with (es ++ (Begin frame true) ∷ [])) m.books frame.token (k.asked frame.body)

@@ -3,7 +3,7 @@ use Rattle.std.proofs.Common.{◌≡◌, ◌⊎◌, ℕ, true, false, true≢fal
 use Rattle.reql_shared.specs.Acts.{Ran, Looked, Denied}
 use Rattle.reql_story.specs.Requests.{Arm}
 use Rattle.reql_story.specs.Tasks.{Talk, Task}
-use Rattle.reql_story.specs.Session.{Event, Turn, Visit, Greeted, Begin, Heard, Lost, Quiet, Finish, Broken, Long, Wear, Poor, On, OnNames, Dice, Clock, Come, Say, Want, Doing, Leaving, Mach, doing_next, fresh, Step, Run, LeavesArm, over}
+use Rattle.reql_story.specs.Session.{Event, Turn, Visit, Greeted, Login, Cast, Begin, Heard, Lost, Quiet, Finish, Broken, Long, Wear, Poor, On, OnNames, Dice, Clock, Come, Say, Want, Doing, Leaving, Mach, doing_next, fresh, Step, Run, LeavesArm, over}
 use Rattle.reql_story.specs.Explained.{DeskShare, Life, Explained}
 use Rattle.reql_story.specs.declared.end.End.{End}
 use Rattle.reql_story.specs.declared.end.End.TheVariants as ends
@@ -45,6 +45,9 @@ module _ {PL : Type 0} (k : Talk PL) where
   back m n Visit s h = inl (on m n (Some s.1) _ (doing_of _ _ s.3) h)
   back m n (Greeted true) s h = elim s.2 [ inl g ↦ inl (no m n _ (doing_of _ _ g.4) (λ x. x) h) | inr g ↦ inl (no m n _ (doing_of _ _ g.4) (λ x. x) h) ]
   back m n (Greeted false) s h = elim s.2 [ inl g ↦ inl (no m n _ (doing_of _ _ g.4) (λ x. x) h) | inr g ↦ inl (no m n _ (doing_of _ _ g.4) (λ x. x) h) ]
+  back m n (Login true) s h = elim s.2 [ inl g ↦ inl (no m n _ (doing_of _ _ g.5) (λ x. x) h) | inr r ↦ elim r [ inl g ↦ inl (no m n _ (doing_of _ _ g.4) (λ x. x) h) | inr g ↦ inl (no m n _ (doing_of _ _ g.3) (λ x. x) h) ] ]
+  back m n (Login false) s h = elim s.2 [ inl g ↦ inl (no m n _ (doing_of _ _ g.5) (λ x. x) h) | inr r ↦ elim r [ inl g ↦ inl (no m n _ (doing_of _ _ g.4) (λ x. x) h) | inr g ↦ inl (no m n _ (doing_of _ _ g.3) (λ x. x) h) ] ]
+  back m n (Cast bytes) s h = inl (no m n _ (doing_of _ _ s.2) (λ x. x) h)
   back m n (Begin frame is_read) s h = inl (on m n None _ (doing_of _ _ s.5) h)
   back m n (Heard bytes) s h = inl (no m n _ (doing_of _ _ s.2) (λ x. x) h)
   back m n (Lost bytes) s h = inl (no m n _ (doing_of _ _ s.2) (λ x. x) h)
@@ -85,6 +88,8 @@ module _ {PL : Type 0} (k : Talk PL) where
   first_over Turn es h = absurd (true≢false (sym h))
   first_over Visit es h = absurd (true≢false (sym h))
   first_over (Greeted whole) es h = absurd (true≢false (sym h))
+  first_over (Login whole) es h = absurd (true≢false (sym h))
+  first_over (Cast bytes) es h = absurd (true≢false (sym h))
   first_over (Begin frame is_read) es h = absurd (true≢false (sym h))
   first_over (Heard bytes) es h = absurd (true≢false (sym h))
   first_over (Lost bytes) es h = absurd (true≢false (sym h))
@@ -106,6 +111,8 @@ module _ {PL : Type 0} (k : Talk PL) where
   later_over Turn es h = h
   later_over Visit es h = h
   later_over (Greeted whole) es h = h
+  later_over (Login whole) es h = h
+  later_over (Cast bytes) es h = h
   later_over (Begin frame is_read) es h = h
   later_over (Heard bytes) es h = h
   later_over (Lost bytes) es h = h

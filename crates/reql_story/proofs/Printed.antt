@@ -25,7 +25,7 @@ use Rattle.reql_story.specs.Books.{Cursor, Open, Books, has_token, without, curs
 use Rattle.reql_story.specs.Tasks.{Talk, Firm, Stops, Drops, Settled, Task, Planning, Visiting, Telling, Closing, Next, done, at, close, internal_for, wanted, denied, told, stop_feed, stop, is_long, cut, tell, tell_now, settle, comes_to, continue_cursor, continue_left, continue_feed, continue_on, visit_feed, visit, refuse, begin, takes_up, next_arm, batch_of, gone, took_said, took, ran, found_more, Runs, Asks, batch_size, is_empty, skipped_item, change_items, cut_to, fitted, others, arms_denied, take_order, close_order}
 use Rattle.reql_story.specs.Bodies.{full}
 use Rattle.reql_story.specs.Minding.{has_arm, are_apart, Minds, IsOther, PlansMind}
-use Rattle.reql_story.specs.Session.{Event, Turn, Visit, Greeted, Begin, Heard, Lost, Quiet, Finish, Broken, Long, Wear, Poor, On, OnNames, Dice, Clock, Come, Say, Want, Doing, Rest, Visits, Busy, Leaving, Mach, fresh, Step, Run, doing_next, goes_on, PlanEnds}
+use Rattle.reql_story.specs.Session.{Event, Turn, Visit, Greeted, Login, Cast, Begin, Heard, Lost, Quiet, Finish, Broken, Long, Wear, Poor, On, OnNames, Dice, Clock, Come, Say, Want, Doing, Rest, Visits, Busy, Leaving, Mach, fresh, Step, Run, doing_next, goes_on, PlanEnds}
 use Rattle.reql_story.specs.Waiting.{IsNothing, IsBare, FoundNothing, IsVisited, EndsInVain}
 use Rattle.reql_story.specs.Owed.{keeps, IsHere}
 use Rattle.reql_story.specs.Printed.{items_in, said_by, all_said, AreNotes, HasNotes, printed, printed_from, given_by, left_of, task_asks, is_asking, taken_at, saying, due, IsOpenAt, StaysOpen, all_given, IsTold, FeedsAreTold, BatchesAreOfFeeds, BatchesAreFull, TakesAreOfFeeds, AllIsSaid}
@@ -747,6 +747,12 @@ module _ {PL : Type 0} (k : Talk PL) (on : PL → Bool → ℕ → List Found �
       | inr g ↦ leaves_off m n _ (Greeted true) v g.4 refl tt
     ])
     step_fits m n (Greeted false) v h s = inl (elim s.2 [ inl g ↦ leaves_off m n _ (Greeted false) v g.4 refl tt | inr g ↦ leaves_off m n _ (Greeted false) v g.4 refl tt ])
+    step_fits m n (Login true) v h s = inl (elim s.2 [
+      | inl g ↦ stays_as m n _ (Login true) v g.5 (at_doing m (Visits []) v s.0 h) (refl, refl, tt)
+      | inr r ↦ elim r [ inl g ↦ stays_as m n _ (Login true) v g.4 (at_doing m (Visits []) v s.0 h) (refl, refl, tt) | inr g ↦ leaves_off m n _ (Login true) v g.3 refl tt ]
+    ])
+    step_fits m n (Login false) v h s = inl (elim s.2 [ inl g ↦ leaves_off m n _ (Login false) v g.5 refl tt | inr r ↦ elim r [ inl g ↦ leaves_off m n _ (Login false) v g.4 refl tt | inr g ↦ leaves_off m n _ (Login false) v g.3 refl tt ] ])
+    step_fits m n (Cast bytes) v h s = inl (stays_as m n _ (Cast bytes) v s.2 (at_doing m (Visits []) v s.0 h) (refl, refl, tt))
     step_fits m n (Begin frame is_read) v h s =
         inl (by_next m n (record m { held = s.0 }) (Begin frame is_read) None (takes_up k m.books frame.token frame.body is_read) v s.5 (takes_up_good m.books frame.token frame.body is_read v (at_doing m (Visits []) v s.1 h)) (refl, refl, tt))
     step_fits m n (Heard bytes) v h s = inl (stays_as m n _ (Heard bytes) v s.2 (at_doing m (Visits []) v s.0.0 h) (refl, refl, tt))

@@ -1,22 +1,23 @@
 -- What is held when a session leaves.
-use Rattle.std.proofs.Common.{ℕ, Bool, true, false, List, [], ◌∷◌, Option, Some, None, refl, sym, subst, inl, inr, arith}
+use Rattle.std.proofs.Common.{ℕ, true, false, List, [], ◌∷◌, Option, Some, None, refl, sym, subst, inl, inr, arith}
 use Rattle.reql_shared.specs.Acts.{Ran, Looked, Denied}
 use Rattle.reql_story.specs.Requests.{Arm, SawNames, Clocked, SawSlot, ChangedNames, Rolled}
 use Rattle.reql_story.specs.Books.{saw_names}
 use Rattle.reql_story.specs.Tasks.{Talk, Task, Next, visit, takes_up, ran, found_more, wanted, denied, told, comes_to, batch_size}
-use Rattle.reql_story.specs.Session.{Event, Turn, Visit, Greeted, Begin, Heard, Lost, Quiet, Finish, Broken, Long, Wear, Poor, On, OnNames, Dice, Clock, Come, Say, Want, Doing, Leaving, Mach, doing_next, goes_on, end_of, fresh, Unread, Step, Run, LeavesArm}
+use Rattle.reql_story.specs.Session.{Event, Turn, Visit, Greeted, Login, Cast, Begin, Heard, Lost, Quiet, Finish, Broken, Long, Wear, Poor, On, OnNames, Dice, Clock, Come, Say, Want, Doing, Leaving, Mach, doing_next, goes_on, end_of, fresh, Unread, Step, Run, LeavesArm}
+use Rattle.reql_story.specs.Logins.{Stage}
 use Rattle.reql_story.specs.Laws.{LeftAs, FramesHandled}
 use Rattle.reql_story.proofs.Orders.{handled}
 
 module _ {PL : Type 0} (k : Talk PL) where
-  abbrev LeftWhen : Doing PL → Bool → List ℕ → Type 0
+  abbrev LeftWhen : Doing PL → Stage → List ℕ → Type 0
   LeftWhen (Leaving arms end) greeted held = LeftAs k end greeted held
   LeftWhen other greeted held = Unit {0}
 
   abbrev IsLeft : Mach PL → Type 0
   IsLeft m = LeftWhen m.doing m.greeted m.held
 
-  left_goes : (back : Option (List ℕ)) (t : Option (Task PL)) (greeted : Bool) (held : List ℕ) → LeftWhen (doing_next back t) greeted held
+  left_goes : (back : Option (List ℕ)) (t : Option (Task PL)) (greeted : Stage) (held : List ℕ) → LeftWhen (doing_next back t) greeted held
   left_goes None None greeted held = tt
   left_goes (Some left) None greeted held = tt
   left_goes back (Some t) greeted held = tt
@@ -24,7 +25,7 @@ module _ {PL : Type 0} (k : Talk PL) where
   left_by : (m : Mach PL) (back : Option (List ℕ)) (x : Next PL) → IsLeft (goes_on m back x)
   left_by m back x = left_goes back x.task m.greeted m.held
 
-  left_end : (greeted : Bool) (held : List ℕ) → Unread k greeted held → LeftAs k (end_of held) greeted held
+  left_end : (greeted : Stage) (held : List ℕ) → Unread k greeted held → LeftAs k (end_of held) greeted held
   left_end greeted [] u = (refl, u)
   left_end greeted (b ∷ bs) u = (refl, omega arith, u)
 
@@ -36,9 +37,15 @@ module _ {PL : Type 0} (k : Talk PL) where
   left_step m n Visit s h = subst IsLeft (sym s.3) (left_by m (Some s.1) (visit k m.books s.0))
   left_step m n (Greeted true) s h = elim s.2 [
     | inl g ↦ subst IsLeft (sym g.4) tt
-    | inr g ↦ subst IsLeft (sym g.4) (s.1, g.1)
+    | inr g ↦ subst IsLeft (sym g.4) (inl (s.1, g.1))
   ]
   left_step m n (Greeted false) s h = elim s.2 [ inl g ↦ subst IsLeft (sym g.4) tt | inr g ↦ subst IsLeft (sym g.4) tt ]
+  left_step m n (Login true) s h = elim s.2 [
+    | inl g ↦ subst IsLeft (sym g.5) tt
+    | inr r ↦ elim r [ inl g ↦ subst IsLeft (sym g.4) tt | inr g ↦ subst IsLeft (sym g.3) (inr (g.0, refl, g.1)) ]
+  ]
+  left_step m n (Login false) s h = elim s.2 [ inl g ↦ subst IsLeft (sym g.5) tt | inr r ↦ elim r [ inl g ↦ subst IsLeft (sym g.4) tt | inr g ↦ subst IsLeft (sym g.3) tt ] ]
+  left_step m n (Cast bytes) s h = subst IsLeft (sym s.2) tt
   left_step m n (Begin frame is_read) s h = subst IsLeft (sym s.5) (left_by (record m { held = s.0 }) None (takes_up k m.books frame.token frame.body is_read))
   left_step m n (Heard bytes) s h = subst IsLeft (sym s.2) tt
   left_step m n (Lost bytes) s h = subst IsLeft (sym s.2) tt

@@ -1,12 +1,16 @@
 -- Single steps of a session, one lemma an event.
-use Rattle.std.proofs.Common.{length, ◌≡◌, inl, inr, ℕ, ℤ, Bool, true, false, cond, ◌||◌, List, [], ◌∷◌, ◌++◌, Option, Some, None, refl, sym, ap, subst, arith, append-nil}
+use Rattle.std.proofs.Common.{length, ◌≡◌, ◌<◌, inl, inr, ℕ, ℤ, Bool, true, false, cond, ◌||◌, List, [], ◌∷◌, ◌++◌, Option, Some, None, refl, sym, ap, subst, arith, append-nil}
 use Rattle.std.specs.Prelude.{nat_eq}
 use Rattle.std.proofs.lemmas.Bool.Decides.{eqb_tells}
 use Rattle.reql_wire.specs.Frames.{Over, Fits, spelling}
 use Rattle.reql_wire.specs.Greeting.{Greets, accepted, refusal}
 use Rattle.reql_wire.specs.declared.frame.Frame.{Frame}
 use Rattle.reql_wire.specs.declared.greeter.GreetFault.{GreetFault}
+use Rattle.reql_wire.specs.declared.greeter.GreetFault.TheVariants as fault
 use Rattle.reql_wire.specs.declared.greeter.Greeting.TheVariants as greeting
+use Rattle.reql_scram.specs.declared.fault.LoginFault.{LoginFault}
+use Rattle.reql_login.specs.Turns.{Gate, after_roll}
+use Rattle.reql_login.specs.Turns as gates
 use Rattle.reql_outside.specs.Tape.{Tape, Moves, recv_failed, send_failed, SendsAll}
 use Rattle.reql_outside.proofs.Moving.{still}
 use Rattle.reql_shared.specs.Sight.{Sight}
@@ -25,7 +29,8 @@ use Rattle.reql_law.specs.declared.reply.Saved.{Saved}
 use Rattle.reql_story.specs.Requests.{TellTime, Clocked, Roll, Rolled, Arm, Answer}
 use Rattle.reql_story.specs.Books.{Books, all_arms}
 use Rattle.reql_story.specs.Tasks.{found_more, Asks, Talk, Task, Telling, told, visit, takes_up, wanted}
-use Rattle.reql_story.specs.Session.{Greeted, Clock, Dice, greets_back, turns_away, Event, Turn, Visit, Begin, Heard, Quiet, Finish, Broken, Long, Lost, Wear, Poor, On, OnNames, Say, Want, Rest, Visits, Busy, Leaving, Mach, goes_on, leaves, end_of, spoken, IsPiece, Unread, MayStarve, Step, heard, idles, turns, over, clocked, rolled, acts_on, acts_on_names}
+use Rattle.reql_story.specs.Logins.{Waiting, At, Admitted, InLogin}
+use Rattle.reql_story.specs.Session.{Greeted, Login, Cast, Clock, Dice, greets_back, turns_away, lets_on, lets_in, LoginStep, Event, Turn, Visit, Begin, Heard, Quiet, Finish, Broken, Long, Lost, Wear, Poor, On, OnNames, Say, Want, Rest, Visits, Busy, Leaving, Mach, goes_on, leaves, end_of, spoken, IsPiece, Unread, MayStarve, Step, heard, idles, turns, over, clocked, rolled, acts_on, acts_on_names}
 use Rattle.reql_story.specs.Explained.{IsHonest}
 use Rattle.reql_story.specs.Worlds.{OnSlot, Place, sound_at, with_out, faulted, DeskPlays, Does, Goes, Why, Ended}
 use Rattle.reql_story.specs.declared.end.End.{End}
@@ -143,7 +148,7 @@ module _ {PL : Type 0} (k : Talk PL) where
   does_visit x token left e = does_step x _ Visit [] (record { bytes = refl; idle = refl; turn = refl; still = refl; clock = refl; dice = refl; apart = record { slot = λ s. refl; name = refl; honest = λ s. tt } })
       (λ out. (token, left, e, ap (λ o. with_out o (goes_on x.now (Some left) (visit k x.now.books token))) (append-nil out)))
 
-  pub does_begin : (x : Place PL) (frame : Frame) (is_read : Bool) (rest : List ℕ) → x.now.doing ≡ Visits [] → x.now.greeted ≡ true → Fits k.limits.frame frame → x.now.held ≡ spelling frame ++ rest →
+  pub does_begin : (x : Place PL) (frame : Frame) (is_read : Bool) (rest : List ℕ) → x.now.doing ≡ Visits [] → x.now.greeted ≡ Admitted → Fits k.limits.frame frame → x.now.held ≡ spelling frame ++ rest →
       Does k x (moved x (goes_on (record x.now { held = rest }) None (takes_up k x.now.books frame.token frame.body is_read))) []
   does_begin x frame is_read rest e g f h = does_step x _ (Begin frame is_read) [] (record { bytes = refl; idle = refl; turn = refl; still = refl; clock = refl; dice = refl; apart = record { slot = λ s. refl; name = refl; honest = λ s. tt } })
       (λ out. (rest, e, g, f, h, ap (λ o. with_out o (goes_on (record x.now { held = rest }) None (takes_up k x.now.books frame.token frame.body is_read))) (append-nil out)))
@@ -165,7 +170,7 @@ module _ {PL : Type 0} (k : Talk PL) where
 
   -- an end, where nothing is said
   ends_step : (t u : Tape) (x : Place PL) (n : Mach PL) (e : Event) (end : End) (arms : List Arm) → Moves (faulted end t) u (heard (e ∷ [])) [] (idles (e ∷ [])) u.over → u.over ≡ (over (e ∷ []) || t.over) → clocked (e ∷ []) ≡ [] → rolled (e ∷ []) ≡ [] → turns (e ∷ []) ≡ 0 → IsApart e →
-      n.doing ≡ Leaving arms end → Why k end n.held u.over → ((out : List ℕ) → Step k (with_out out x.now) e (with_out out n)) → Ended k t u x (moved x n) [] [] end arms 0
+      n.doing ≡ Leaving arms end → Why k end n.greeted n.held u.over → ((out : List ℕ) → Step k (with_out out x.now) e (with_out out n)) → Ended k t u x (moved x n) [] [] end arms 0
   ends_step t u x n e end arms m o c d r a l w f = record {
     events = e ∷ [];
     said = [];
@@ -197,7 +202,7 @@ module _ {PL : Type 0} (k : Talk PL) where
   ends_lost t u x bytes e r p m = ends_step t u x (leaves (record x.now { held = x.now.held ++ bytes }) x.now.books ends.Memory) (Lost bytes) ends.Memory (all_arms x.now.books) (subst (λ z. Moves t u z [] 0 u.over) (sym (append-nil bytes)) (subst (λ o. Moves t u bytes [] 0 o) (sym m.ended) m)) m.ended refl refl refl
       (record { slot = λ s. refl; name = refl; honest = λ s. tt }) refl tt (λ out. ((e, r), p, refl))
 
-  pub ends_long : (t : Tape) (x : Place PL) (len : ℕ) → x.now.doing ≡ Visits [] → x.now.greeted ≡ true → Over k.limits.frame x.now.held len → Ended k t t x (moved x (leaves x.now x.now.books (ends.TooLong len))) [] [] (ends.TooLong len) (all_arms x.now.books) 0
+  pub ends_long : (t : Tape) (x : Place PL) (len : ℕ) → x.now.doing ≡ Visits [] → x.now.greeted ≡ Admitted → Over k.limits.frame x.now.held len → Ended k t t x (moved x (leaves x.now x.now.books (ends.TooLong len))) [] [] (ends.TooLong len) (all_arms x.now.books) 0
   ends_long t x len e g o = ends_step t t x (leaves x.now x.now.books (ends.TooLong len)) (Long len) (ends.TooLong len) (all_arms x.now.books) (same_moves t) refl refl refl refl (record { slot = λ s. refl; name = refl; honest = λ s. tt }) refl o (λ out. (e, g, o, refl))
 
   pub ends_poor : (t : Tape) (x : Place PL) → MayStarve k x.now → Ended k t t x (moved x (leaves x.now x.now.books ends.Memory)) [] [] ends.Memory (all_arms x.now.books) 0
@@ -221,29 +226,29 @@ module _ {PL : Type 0} (k : Talk PL) where
   }
 
   -- ---- the greeting
-  pub does_greeted : (x : Place PL) (used : ℕ) → x.now.doing ≡ Visits [] → x.now.greeted ≡ false → Greets k.key x.now.held (greeting.Accepted used) → Does k x (moved x (greets_back x.now used true)) accepted
+  pub does_greeted : (x : Place PL) (used : ℕ) → x.now.doing ≡ Visits [] → x.now.greeted ≡ Waiting → Greets k.key x.now.held (greeting.Accepted used) → Does k x (moved x (greets_back x.now used true)) accepted
   does_greeted x used e g h = does_step x (greets_back x.now used true) (Greeted true) accepted (record { bytes = refl; idle = refl; turn = refl; still = refl; clock = refl; dice = refl; apart = record { slot = λ s. refl; name = refl; honest = λ s. tt } })
       (λ out. (e, g, inl (used, h, accepted, refl, refl)))
 
   -- it is refused, and that was told
-  pub ends_refused : (t u : Tape) (x : Place PL) (fault : GreetFault) → x.now.doing ≡ Visits [] → x.now.greeted ≡ false → Greets k.key x.now.held (greeting.Refused fault) → Moves t u [] (refusal fault) 0 t.over →
-      Ended k t u x (moved x (turns_away x.now fault true)) [] [] (ends.Refused fault) [] 0
-  ends_refused t u x fault e g h m = record {
+  pub ends_refused : (t u : Tape) (x : Place PL) (why : GreetFault) → x.now.doing ≡ Visits [] → x.now.greeted ≡ Waiting → Greets k.key x.now.held (greeting.Refused why) → Moves t u [] (refusal why) 0 t.over →
+      Ended k t u x (moved x (turns_away x.now why true)) [] [] (ends.Refused why) [] 0
+  ends_refused t u x why e g h m = record {
     events = Greeted true ∷ [];
-    said = refusal fault;
-    run = λ out. (with_out (out ++ refusal fault) (turns_away x.now fault true), (e, g, inr (fault, h, refusal fault, refl, refl)), refl);
+    said = refusal why;
+    run = λ out. (with_out (out ++ refusal why) (turns_away x.now why true), (e, g, inr (why, h, refusal why, refl, refl)), refl);
     left = refl;
-    moves = subst (λ o. Moves t u [] (refusal fault) 0 o) (sym m.ended) m;
+    moves = subst (λ o. Moves t u [] (refusal why) 0 o) (sym m.ended) m;
     still = m.ended;
     clock = refl;
     dice = refl;
-    why = h;
-    plays = plays_none x (turns_away x.now fault true) (Greeted true) (record { slot = λ s. refl; name = refl; honest = λ s. tt });
+    why = inl (g, h);
+    plays = plays_none x (turns_away x.now why true) (Greeted true) (record { slot = λ s. refl; name = refl; honest = λ s. tt });
     count = refl;
   }
 
   -- the answer to it went out in part
-  pub ends_ungreeted : (t u : Tape) (x : Place PL) (used : ℕ) → x.now.doing ≡ Visits [] → x.now.greeted ≡ false → Greets k.key x.now.held (greeting.Accepted used) → SendsAll t u accepted false →
+  pub ends_ungreeted : (t u : Tape) (x : Place PL) (used : ℕ) → x.now.doing ≡ Visits [] → x.now.greeted ≡ Waiting → Greets k.key x.now.held (greeting.Accepted used) → SendsAll t u accepted false →
       Ended k t u x (moved x (greets_back x.now used false)) [] [] ends.WriteFault [] 0
   ends_ungreeted t u x used e g h s = record {
     events = Greeted false ∷ [];
@@ -259,21 +264,96 @@ module _ {PL : Type 0} (k : Talk PL) where
     count = refl;
   }
 
-  pub ends_unrefused : (t u : Tape) (x : Place PL) (fault : GreetFault) → x.now.doing ≡ Visits [] → x.now.greeted ≡ false → Greets k.key x.now.held (greeting.Refused fault) → SendsAll t u (refusal fault) false →
-      Ended k t u x (moved x (turns_away x.now fault false)) [] [] ends.WriteFault [] 0
-  ends_unrefused t u x fault e g h s = record {
+  pub ends_unrefused : (t u : Tape) (x : Place PL) (why : GreetFault) → x.now.doing ≡ Visits [] → x.now.greeted ≡ Waiting → Greets k.key x.now.held (greeting.Refused why) → SendsAll t u (refusal why) false →
+      Ended k t u x (moved x (turns_away x.now why false)) [] [] ends.WriteFault [] 0
+  ends_unrefused t u x why e g h s = record {
     events = Greeted false ∷ [];
     said = s.0;
-    run = λ out. (with_out (out ++ s.0) (turns_away x.now fault false), (e, g, inr (fault, h, s.0, (s.1, s.2, s.3), refl)), refl);
+    run = λ out. (with_out (out ++ s.0) (turns_away x.now why false), (e, g, inr (why, h, s.0, (s.1, s.2, s.3), refl)), refl);
     left = refl;
     moves = subst (λ o. Moves (send_failed t) u [] s.0 0 o) (sym s.4.ended) s.4;
     still = s.4.ended;
     clock = refl;
     dice = refl;
     why = tt;
-    plays = plays_none x (turns_away x.now fault false) (Greeted false) (record { slot = λ s. refl; name = refl; honest = λ s. tt });
+    plays = plays_none x (turns_away x.now why false) (Greeted false) (record { slot = λ s. refl; name = refl; honest = λ s. tt });
     count = refl;
   }
+
+  -- ---- a login: a roll, a message that was sent whole, a refusal that was told, and what was sent in part alone
+  pub goes_cast : (t : Tape) (x : Place PL) (bytes : Option (List ℕ)) → x.now.doing ≡ Visits [] → (l : InLogin k x.now.greeted x.now.held gates.Rolls) →
+      Goes k t t x (moved x (record x.now { greeted = At (after_roll l.gate bytes); doing = Visits [] })) [] (bytes ∷ []) 0
+  goes_cast t x bytes e l = record {
+    events = Cast bytes ∷ [];
+    said = [];
+    run = λ out. (
+      with_out out (record x.now { greeted = At (after_roll l.gate bytes); doing = Visits [] }),
+      (e, l, refl),
+      ap (λ o. with_out o (record x.now { greeted = At (after_roll l.gate bytes); doing = Visits [] })) (append-nil out),
+    );
+    moves = same_moves t;
+    still = refl;
+    clock = refl;
+    dice = refl;
+    plays = plays_none x (record x.now { greeted = At (after_roll l.gate bytes); doing = Visits [] }) (Cast bytes) (record { slot = λ s. refl; name = refl; honest = λ s. tt });
+    count = refl;
+  }
+
+  pub does_lets_on : (x : Place PL) (bytes rest : List ℕ) (next : Gate) → x.now.doing ≡ Visits [] → InLogin k x.now.greeted x.now.held (gates.Says bytes rest next) →
+      Does k x (moved x (lets_on x.now rest next true)) bytes
+  does_lets_on x bytes rest next e l = does_step x (lets_on x.now rest next true) (Login true) bytes (record { bytes = refl; idle = refl; turn = refl; still = refl; clock = refl; dice = refl; apart = record { slot = λ s. refl; name = refl; honest = λ s. tt } })
+      (λ out. (e, bytes, inl (bytes, rest, next, l, refl, refl)))
+
+  pub does_lets_in : (x : Place PL) (bytes rest : List ℕ) → x.now.doing ≡ Visits [] → InLogin k x.now.greeted x.now.held (gates.Admits bytes rest) →
+      Does k x (moved x (lets_in x.now rest true)) bytes
+  does_lets_in x bytes rest e l = does_step x (lets_in x.now rest true) (Login true) bytes (record { bytes = refl; idle = refl; turn = refl; still = refl; clock = refl; dice = refl; apart = record { slot = λ s. refl; name = refl; honest = λ s. tt } })
+      (λ out. (e, bytes, inr (inl (bytes, rest, l, refl, refl))))
+
+  pub ends_denied : (t u : Tape) (x : Place PL) (why : LoginFault) → x.now.doing ≡ Visits [] → InLogin k x.now.greeted x.now.held (gates.Refuses why) → Moves t u [] (refusal (fault.Login why)) 0 t.over →
+      Ended k t u x (moved x (turns_away x.now (fault.Login why) true)) [] [] (ends.Refused (fault.Login why)) [] 0
+  ends_denied t u x why e l m = record {
+    events = Login true ∷ [];
+    said = refusal (fault.Login why);
+    run = λ out. (with_out (out ++ refusal (fault.Login why)) (turns_away x.now (fault.Login why) true), (e, refusal (fault.Login why), inr (inr (why, l, refl, refl))), refl);
+    left = refl;
+    moves = subst (λ o. Moves t u [] (refusal (fault.Login why)) 0 o) (sym m.ended) m;
+    still = m.ended;
+    clock = refl;
+    dice = refl;
+    why = inr (why, refl, l);
+    plays = plays_none x (turns_away x.now (fault.Login why) true) (Login true) (record { slot = λ s. refl; name = refl; honest = λ s. tt });
+    count = refl;
+  }
+
+  -- whatever was to be sent, a message, the last one or a refusal
+  ends_unsaid : (t u : Tape) (x : Place PL) (piece : List ℕ) → SendsAll t u piece false
+      → ((out front back : List ℕ) → piece ≡ front ++ back → 0 < length back → Step k (with_out out x.now) (Login false) (with_out (out ++ front) (record x.now { doing = Leaving [] ends.WriteFault })))
+      → Ended k t u x (moved x (record x.now { doing = Leaving [] ends.WriteFault })) [] [] ends.WriteFault [] 0
+  ends_unsaid t u x piece s f = record {
+    events = Login false ∷ [];
+    said = s.0;
+    run = λ out. (with_out (out ++ s.0) (record x.now { doing = Leaving [] ends.WriteFault }), f out s.0 s.1 s.2 s.3, refl);
+    left = refl;
+    moves = subst (λ o. Moves (send_failed t) u [] s.0 0 o) (sym s.4.ended) s.4;
+    still = s.4.ended;
+    clock = refl;
+    dice = refl;
+    why = tt;
+    plays = plays_none x (record x.now { doing = Leaving [] ends.WriteFault }) (Login false) (record { slot = λ s. refl; name = refl; honest = λ s. tt });
+    count = refl;
+  }
+
+  pub ends_unlet_on : (t u : Tape) (x : Place PL) (bytes rest : List ℕ) (next : Gate) → x.now.doing ≡ Visits [] → InLogin k x.now.greeted x.now.held (gates.Says bytes rest next) → SendsAll t u bytes false →
+      Ended k t u x (moved x (lets_on x.now rest next false)) [] [] ends.WriteFault [] 0
+  ends_unlet_on t u x bytes rest next e l s = ends_unsaid t u x bytes s (λ out front back a b. (e, front, inl (bytes, rest, next, l, (back, a, b), refl)))
+
+  pub ends_unlet_in : (t u : Tape) (x : Place PL) (bytes rest : List ℕ) → x.now.doing ≡ Visits [] → InLogin k x.now.greeted x.now.held (gates.Admits bytes rest) → SendsAll t u bytes false →
+      Ended k t u x (moved x (lets_in x.now rest false)) [] [] ends.WriteFault [] 0
+  ends_unlet_in t u x bytes rest e l s = ends_unsaid t u x bytes s (λ out front back a b. (e, front, inr (inl (bytes, rest, l, (back, a, b), refl))))
+
+  pub ends_undenied : (t u : Tape) (x : Place PL) (why : LoginFault) → x.now.doing ≡ Visits [] → InLogin k x.now.greeted x.now.held (gates.Refuses why) → SendsAll t u (refusal (fault.Login why)) false →
+      Ended k t u x (moved x (turns_away x.now (fault.Login why) false)) [] [] ends.WriteFault [] 0
+  ends_undenied t u x why e l s = ends_unsaid t u x (refusal (fault.Login why)) s (λ out front back a b. (e, front, inr (inr (why, l, (back, a, b), refl))))
 
   -- ---- the clock and the dice
   pub goes_clocked : (t : Tape) (x : Place PL) (back : Option (List ℕ)) (task : Task PL) (moment : Option ℤ) → x.now.doing ≡ Busy back task → Asks k task TellTime →

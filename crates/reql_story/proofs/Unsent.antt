@@ -5,7 +5,7 @@ use Rattle.reql_shared.specs.Acts.{Ran, Looked, Denied}
 use Rattle.reql_story.specs.Requests.{Arm}
 use Rattle.reql_story.specs.Tasks.{Talk, Task}
 use Rattle.reql_story.specs.Laws.{IsUnsent, IsClosing, FirstFailed}
-use Rattle.reql_story.specs.Session.{Event, Turn, Visit, Greeted, Begin, Heard, Lost, Quiet, Finish, Broken, Long, Wear, Poor, On, OnNames, Dice, Clock, Come, Say, Want, Doing, Leaving, Mach, doing_next, end_of, fresh, Step, Run, LeavesArm}
+use Rattle.reql_story.specs.Session.{Event, Turn, Visit, Greeted, Login, Cast, Begin, Heard, Lost, Quiet, Finish, Broken, Long, Wear, Poor, On, OnNames, Dice, Clock, Come, Say, Want, Doing, Leaving, Mach, doing_next, end_of, fresh, Step, Run, LeavesArm}
 use Rattle.reql_story.specs.declared.end.End.{End}
 use Rattle.reql_story.specs.declared.end.End.TheVariants as ends
 
@@ -52,6 +52,8 @@ module _ {PL : Type 0} (k : Talk PL) where
   closing m n Turn s h = absurd (subst IsBroken s.0 h)
   closing m n Visit s h = absurd (subst IsBroken s.2 h)
   closing m n (Greeted whole) s h = absurd (subst IsBroken s.0 h)
+  closing m n (Login whole) s h = absurd (subst IsBroken s.0 h)
+  closing m n (Cast bytes) s h = absurd (subst IsBroken s.0 h)
   closing m n (Begin frame is_read) s h = absurd (subst IsBroken s.1 h)
   closing m n (Heard bytes) s h = absurd (subst IsBroken s.0.0 h)
   closing m n (Lost bytes) s h = absurd (subst IsBroken s.0.0 h)
@@ -60,7 +62,10 @@ module _ {PL : Type 0} (k : Talk PL) where
   closing m n Broken s h = absurd (subst IsBroken s.0.0 h)
   closing m n (Long len) s h = absurd (subst IsBroken s.0 h)
   closing m n Wear s h = absurd (subst IsBroken s.0 h)
-  closing m n Poor s h = elim s.0 [ inl d ↦ absurd (subst IsBroken d.0 h) | inr d ↦ absurd (subst IsBroken d.0 h) ]
+  closing m n Poor s h = elim s.0 [
+    | inl d ↦ absurd (subst IsBroken d.0 h)
+    | inr x ↦ elim x [ inl d ↦ absurd (subst IsBroken d.0 h) | inr d ↦ absurd (subst IsBroken d.0 h) ]
+  ]
   closing m n (On slot (Ran place order reply) saved) s h = elim s [
     | inl t ↦ absurd (subst IsBroken t.doing h)
     | inr t ↦ ((t.0.feed, t.1), by_arm m n slot t.0 t.2 h)
@@ -92,6 +97,7 @@ module _ {PL : Type 0} (k : Talk PL) where
   unsent_leaves : (m n : Mach PL) (e : Event) → Step k m e n → IsUnsent e → IsBroken n.doing
   unsent_leaves m n (Say token a false) s u = subst IsBroken (sym (doing_of _ _ s.goes)) tt
   unsent_leaves m n (Greeted false) s u = elim s.2 [ inl g ↦ subst IsBroken (sym (doing_of _ _ g.4)) tt | inr g ↦ subst IsBroken (sym (doing_of _ _ g.4)) tt ]
+  unsent_leaves m n (Login false) s u = elim s.2 [ inl g ↦ subst IsBroken (sym (doing_of _ _ g.5)) tt | inr r ↦ elim r [ inl g ↦ subst IsBroken (sym (doing_of _ _ g.4)) tt | inr g ↦ subst IsBroken (sym (doing_of _ _ g.3)) tt ] ]
   unsent_leaves m n other s u = absurd u
 
   run_at : (m n : Mach PL) (before : List Event) (x : Event) (after : List Event) → Run k m (before ++ x ∷ after) n → (p : Mach PL) × (q : Mach PL) × Step k p x q × Run k q after n
@@ -104,6 +110,9 @@ module _ {PL : Type 0} (k : Talk PL) where
   back m n Visit s h = on m n (Some s.1) _ (doing_of _ _ s.3) h
   back m n (Greeted true) s h = elim s.2 [ inl g ↦ no m n _ (doing_of _ _ g.4) (λ x. x) h | inr g ↦ no m n _ (doing_of _ _ g.4) (λ x. x) h ]
   back m n (Greeted false) s h = inr tt
+  back m n (Login true) s h = elim s.2 [ inl g ↦ no m n _ (doing_of _ _ g.5) (λ x. x) h | inr r ↦ elim r [ inl g ↦ no m n _ (doing_of _ _ g.4) (λ x. x) h | inr g ↦ no m n _ (doing_of _ _ g.3) (λ x. x) h ] ]
+  back m n (Login false) s h = inr tt
+  back m n (Cast bytes) s h = no m n _ (doing_of _ _ s.2) (λ x. x) h
   back m n (Begin frame is_read) s h = on m n None _ (doing_of _ _ s.5) h
   back m n (Heard bytes) s h = no m n _ (doing_of _ _ s.2) (λ x. x) h
   back m n (Lost bytes) s h = no m n _ (doing_of _ _ s.2) (λ x. x) h

@@ -17,7 +17,7 @@ use Rattle.reql_write_law.specs.declared.command.Summary.{Summary}
 use Rattle.reql_story.specs.Requests.{Asked, Unreadable, Unplanned, Start, Continue, Stop, NoreplyWait, ServerInfo, Arm, Skip, Shown, Answered, Unsent, One, Stream, Feed, Fault, Wanting, Move, Found, Answer, Internal, Last}
 use Rattle.reql_story.specs.Books.{Cursor, Open, Books, has_token, without, cursor_of, feed_of, is_open, closed, with_rest, with_left, with_cursor, with_feed, waits, saw_names}
 use Rattle.reql_story.specs.Tasks.{Talk, Firm, Stops, Drops, Settled, Task, Planning, Visiting, Telling, Closing, Next, done, at, only_tell, close, wanted, denied, told, stop_feed, stop, is_long, cut, tell, comes_to, continue_cursor, continue_left, continue_feed, continue_on, visit_feed, visit, refuse, begin, takes_up, next_arm, batch_of, gone, took_said, took, ran, found_more, Runs, Asks, batch_size, is_empty, skipped_item, change_items, cut_to, fitted, others, arms_denied, take_order}
-use Rattle.reql_story.specs.Session.{Event, Turn, Visit, Greeted, Begin, Heard, Lost, Quiet, Finish, Broken, Long, Wear, Poor, On, OnNames, Dice, Clock, Come, Say, Want, Doing, Rest, Visits, Busy, Leaving, Mach, fresh, Step, Run, doing_next, goes_on, Plans, PlanDenied, LeavesArm, turns, turns_of}
+use Rattle.reql_story.specs.Session.{Event, Turn, Visit, Greeted, Login, Cast, Begin, Heard, Lost, Quiet, Finish, Broken, Long, Wear, Poor, On, OnNames, Dice, Clock, Come, Say, Want, Doing, Rest, Visits, Busy, Leaving, Mach, fresh, Step, Run, doing_next, goes_on, Plans, PlanDenied, LeavesArm, turns, turns_of}
 use Rattle.reql_story.specs.Waiting.{IsNothing, IsBare, FoundNothing, IsVisited, EndsInVain, StartsToWait, StaysWaiting, WaitsInVain, WaitsOn}
 use Rattle.reql_story.proofs.Opened.{its_plan}
 use Rattle.reql_story.proofs.Shelves.{or_true, found_token}
@@ -395,6 +395,9 @@ module _ {PL : Type 0} (k : Talk PL) where
       (visit_feed_good (P es m n Visit) (W es m n Visit) k m.books s.0 (feed_of s.0 m.books.feeds) (λ f o l. first_midst es m n Visit s.0 f r s (s.1, s.2) o l))
   step_goes es m n (Greeted true) r h s = elim s.2 [ inl g ↦ moves es m n (Greeted true) _ g.4 (λ b. tt) (λ t z. z) | inr g ↦ moves es m n (Greeted true) _ g.4 (λ b. tt) (λ t z. z) ]
   step_goes es m n (Greeted false) r h s = elim s.2 [ inl g ↦ moves es m n (Greeted false) _ g.4 (λ b. tt) (λ t z. z) | inr g ↦ moves es m n (Greeted false) _ g.4 (λ b. tt) (λ t z. z) ]
+  step_goes es m n (Login true) r h s = elim s.2 [ inl g ↦ moves es m n (Login true) _ g.5 (λ b. tt) (λ t z. z) | inr u ↦ elim u [ inl g ↦ moves es m n (Login true) _ g.4 (λ b. tt) (λ t z. z) | inr g ↦ moves es m n (Login true) _ g.3 (λ b. tt) (λ t z. z) ] ]
+  step_goes es m n (Login false) r h s = elim s.2 [ inl g ↦ moves es m n (Login false) _ g.5 (λ b. tt) (λ t z. z) | inr u ↦ elim u [ inl g ↦ moves es m n (Login false) _ g.4 (λ b. tt) (λ t z. z) | inr g ↦ moves es m n (Login false) _ g.3 (λ b. tt) (λ t z. z) ] ]
+  step_goes es m n (Cast bytes) r h s = moves es m n (Cast bytes) _ s.2 (λ b. tt) (λ t z. z)
   step_goes es m n (Begin frame true) r h s =
       by_next es m n (Begin frame true) (record m { held = s.0 }) None (takes_up k m.books frame.token frame.body true) s.5
       (begin_good (P es m n (Begin frame true)) (W es m n (Begin frame true)) k m.books frame.token (k.asked frame.body) (λ c f o l. first_midst es m n (Begin frame true) frame.token f r s (refl, c) o l))

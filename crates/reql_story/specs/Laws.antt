@@ -1,5 +1,5 @@
 -- The laws of explained sessions.
-use Rattle.std.specs.Prelude.{◌≡◌, ◌≤◌, ◌<◌, ◌+◌, ◌-◌, ◌^◌, ◌⊎◌, ℕ, Bool, true, false, length, List, [], ◌∷◌, ◌++◌, take, drop, flat_map, map, Some}
+use Rattle.std.specs.Prelude.{◌≡◌, ◌≤◌, ◌<◌, ◌+◌, ◌-◌, ◌^◌, ◌⊎◌, ℕ, Bool, true, false, length, List, [], ◌∷◌, ◌++◌, take, drop, flat_map, map, Option, Some}
 use Rattle.std.specs.List.{AllByRecursion}
 use Rattle.reql_datum.specs.Plain.{Plain}
 use Rattle.reql_wire.specs.Frames.{Fits, Over, spellings}
@@ -27,7 +27,8 @@ use Rattle.reql_law.specs.declared.command.FeedSpec.{FeedSpec}
 use Rattle.reql_law.specs.declared.command.Order.{Order}
 use Rattle.reql_law.specs.declared.reply.Saved.{Saved}
 use Rattle.reql_story.specs.Tasks.{Talk, close_order}
-use Rattle.reql_story.specs.Session.{Event, Greeted, On, Say, Mach, fresh, Unread, Run, heard, begun, acts_on}
+use Rattle.reql_story.specs.Logins.{Stage, Waiting, At, Admitted, IsRefused, Passed}
+use Rattle.reql_story.specs.Session.{Event, Greeted, Login, On, Say, Mach, fresh, Unread, Run, heard, begun, rolled, casts, planned, acts_on}
 use Rattle.reql_story.specs.Explained.{DeskShare, DeskSeen, Life, Explained, ExplainedBy, sent_of, all_told, all_taken}
 use Rattle.reql_story.specs.declared.end.End.{End}
 use Rattle.reql_story.specs.declared.end.End.TheVariants as ends
@@ -40,9 +41,10 @@ pub record NoneLeft {C S : Type 0} (whole : Part C S) (parts : List (Part C S)) 
   pub owned : own whole.number whole.during ≡ flat_map (λ (p : Part C S). own p.number p.during) parts
   pub marks : whole.marks ≡ flat_map (λ (p : Part C S). p.marks) parts
 
--- an answer, to a request or to a greeting, that was sent in part alone
+-- an answer, to a request, to a greeting or in a login, that was sent in part alone
 abbrev pub IsUnsent : Event → Type 0
 IsUnsent (Greeted false) = Unit {0}
+IsUnsent (Login false) = Unit {0}
 IsUnsent (Say token a false) = Unit {0}
 IsUnsent e = ⊥
 
@@ -72,29 +74,30 @@ module _ {PL : Type 0} (k : Talk PL) where
     pub greets : Greets k.key (bytes ++ behind) (greeting.Accepted used)
     pub all : bytes ≡ take used (bytes ++ behind)
 
-  -- a greeting came and was accepted, or none came
-  abbrev pub Began : Bool → Bool → List ℕ → Type 0
-  Began before after bytes = ((bytes ≡ []) × (after ≡ before)) ⊎ ((before ≡ false) × (after ≡ true) × IsAccepted bytes)
+  -- a greeting came and was accepted; or none came, and a login went on by what it took, which is nothing where none went on
+  abbrev pub Began : Stage → Stage → List ℕ → List (Option (List ℕ)) → Type 0
+  Began before after bytes rs = (Passed k before bytes rs after) ⊎ ((before ≡ Waiting) × (after ≡ Admitted) × IsAccepted bytes × (rs ≡ []))
 
-  -- What came is a greeting, where none had come and one was accepted, then the frames that were handled, in order, each within
-  -- the limit, and then what is held. None is handled before a greeting was accepted.
+  -- What came is a greeting, where none had come and one was accepted, or the messages of a login, by its rolls, then the frames that
+  -- were handled, in order, each within the limit, and then what is held. None is handled before a greeting was accepted or a login was
+  -- over.
   pub record Handled (m n : Mach PL) (es : List Event) : Type 0 where
     pub greeting : List ℕ
     pub input : m.held ++ heard es ≡ greeting ++ (spellings (begun es) ++ n.held)
-    pub began : Began m.greeted n.greeted greeting
+    pub began : Began m.greeted n.greeted greeting (casts es)
     pub each : AllByRecursion (Fits k.limits.frame) (begun es)
-    pub before : n.greeted ≡ false → begun es ≡ []
+    pub before : (n.greeted ≡ Admitted → ⊥) → begun es ≡ []
 
   abbrev pub InOrder : Type 0
   InOrder = (m n : Mach PL) (es : List Event) → Run k m es n → Handled m n es
 
-  -- What is held when a session leaves: no whole greeting or frame where its input ended or failed, the header that is too
-  -- long, or the greeting that was refused. Of the other ends nothing is said.
-  abbrev pub LeftAs : End → Bool → List ℕ → Type 0
+  -- What is held when a session leaves: no whole greeting, message of a login or frame where its input ended or failed, the header that
+  -- is too long, or the greeting or the message that was refused. Of the other ends nothing is said.
+  abbrev pub LeftAs : End → Stage → List ℕ → Type 0
   LeftAs ends.Closed greeted held = (held ≡ []) × Unread k greeted held
   LeftAs (ends.Cut n) greeted held = (n ≡ length held) × (0 < n) × Unread k greeted held
-  LeftAs (ends.Refused fault) greeted held = (greeted ≡ false) × Greets k.key held (greeting.Refused fault)
-  LeftAs (ends.TooLong len) greeted held = (greeted ≡ true) × Over k.limits.frame held len
+  LeftAs (ends.Refused fault) greeted held = IsRefused k fault greeted held
+  LeftAs (ends.TooLong len) greeted held = (greeted ≡ Admitted) × Over k.limits.frame held len
   LeftAs ends.ReadFault greeted held = Unread k greeted held
   LeftAs end greeted held = Unit {0}
 
@@ -102,8 +105,12 @@ module _ {PL : Type 0} (k : Talk PL) where
   abbrev pub FramesHandled : Type 0
   FramesHandled = (share : DeskShare) (life : Life) (e : Explained k share life) → Handled fresh e.final e.events × LeftAs life.end e.final.greeted e.final.held
 
-  -- All turns are used up only where more came, or was idle, than so many turns may take: each takes a greeting, a frame or
-  -- some bytes, is idle, or is the last.
+  -- the rolls of a login come before those of requests
+  abbrev pub LoginRollsFirst : Type 0
+  LoginRollsFirst = (share : DeskShare) (life : Life) (e : Explained k share life) → life.rolls ≡ casts e.events ++ planned e.events
+
+  -- All turns are used up only where more came, or was idle, than so many turns may take: each takes a greeting, a message of a
+  -- login, a frame or some bytes, is idle, or is the last.
   abbrev pub WornLate : Type 0
   WornLate = (share : DeskShare) (life : Life) → Explained k share life → life.end ≡ ends.Worn → k.limits.turns < ((length life.given + length life.given) + life.idles) + 2
 
@@ -121,9 +128,20 @@ module _ {PL : Type 0} (k : Talk PL) where
     pub each : AllByRecursion (Fits k.limits.frame) frames
     pub behind : drop used bytes ≡ spellings frames
 
-  -- a valid input: nothing, or such a greeting and frames
-  abbrev pub IsValid : List ℕ → List Frame → Type 0
-  IsValid bytes frames = ((bytes ≡ []) × (frames ≡ [])) ⊎ Brings bytes frames
+  -- A login that is admitted by the session's own rolls, of which some may be still to come, as some of the input may be, and of which
+  -- those for requests come behind; then these frames.
+  pub record LogsIn (rs : List (Option (List ℕ))) (bytes : List ℕ) (frames : List Frame) : Type 0 where
+    pub login : List ℕ
+    pub own : List (Option (List ℕ))
+    pub others : List (Option (List ℕ))
+    pub passed : Passed k Waiting login own Admitted
+    pub its : (rs ≡ own ++ others) ⊎ (own ≡ rs ++ others)
+    pub each : AllByRecursion (Fits k.limits.frame) frames
+    pub all : bytes ≡ login ++ spellings frames
+
+  -- a valid input: nothing, such a greeting and frames, or such a login and frames
+  abbrev pub IsValid : List (Option (List ℕ)) → List ℕ → List Frame → Type 0
+  IsValid rs bytes frames = ((bytes ≡ []) × (frames ≡ [])) ⊎ (Brings bytes frames ⊎ LogsIn rs bytes frames)
 
   -- What is left of the frames of a valid input, of which so much was not given, at an end: none where the session closed, as its
   -- input was over, and none where a receive failed after all was given; any where a send failed, memory was wanted, or more
@@ -147,7 +165,7 @@ module _ {PL : Type 0} (k : Talk PL) where
   -- every frame, and closes.
   abbrev pub ValidCloses : Type 0
   ValidCloses = (share : DeskShare) (life : Life) (e : Explained k share life) (more : List ℕ) (frames : List Frame)
-      → k.limits.frame < 2 ^ 32 → IsValid (life.given ++ more) frames → (life.over ≡ true → more ≡ []) → Closes life more frames (begun e.events)
+      → k.limits.frame < 2 ^ 32 → IsValid life.rolls (life.given ++ more) frames → (life.over ≡ true → more ≡ []) → Closes life more frames (begun e.events)
 
   -- one more session lengthens what a desk did by its share
   abbrev pub OneMore : Type 0

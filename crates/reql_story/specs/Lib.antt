@@ -2,6 +2,7 @@ pub mod Requests
 pub mod Books
 pub mod Bodies
 pub mod Tasks
+pub mod Logins
 pub mod Session
 pub mod Explained
 pub mod Minding

@@ -60,6 +60,7 @@ hushed noreply other = other
 abbrev pub sample : Talk ℕ
 sample = record {
   key = [];
+  password = [];
   limits = usual_limits;
   asked = λ body. ServerInfo;
   next = λ plan noreply count found. hushed noreply (next plan found);

@@ -5,7 +5,11 @@ use Rattle.reql_wire.specs.Frames as frames
 use Rattle.reql_wire.specs.Greeting.{Greets, accepted, refusal}
 use Rattle.reql_wire.specs.declared.frame.Frame.{Frame}
 use Rattle.reql_wire.specs.declared.greeter.GreetFault.{GreetFault}
+use Rattle.reql_wire.specs.declared.greeter.GreetFault.TheVariants as fault
 use Rattle.reql_wire.specs.declared.greeter.Greeting.TheVariants as greeting
+use Rattle.reql_scram.specs.declared.fault.LoginFault.{LoginFault}
+use Rattle.reql_login.specs.Turns.{Gate, after_roll, turn_of}
+use Rattle.reql_login.specs.Turns as gates
 use Rattle.reql_shared.specs.Acts.{Act, Ran, Looked, Denied}
 use Rattle.reql_shared.specs.declared.engine.Snap.{Snap}
 use Rattle.reql_catalog.specs.Catalog.{Named}
@@ -19,11 +23,12 @@ use Rattle.reql_story.specs.Requests.{Arm, Answered, Move, LookNames, TellTime, 
 use Rattle.reql_story.specs.Books.{Books, no_books, all_arms, saw_names}
 use Rattle.reql_story.specs.Bodies.{body}
 use Rattle.reql_story.specs.Tasks.{Talk, Task, Planning, Telling, Next, batch_size, wanted, denied, told, visit, comes_to, takes_up, ran, found_more, Runs, Asks, close_order}
+use Rattle.reql_story.specs.Logins.{Stage, Waiting, At, Admitted, InLogin, account}
 use Rattle.reql_story.specs.declared.end.End.{End}
 use Rattle.reql_story.specs.declared.end.End.TheVariants as ends
 
--- An event: a turn or a visit begins; the greeting is accepted or refused, and its answer was sent whole or in part; a frame
--- is taken, and its body is read, or not for want of memory; what a receive gave, with room for it or none; a header that is
+-- An event: a turn or a visit begins; the greeting is accepted or refused, and its answer was sent whole or in part; likewise a
+-- login says a message, or is refused; it rolls; a frame is taken, and its body is read, or not for want of memory; what a receive gave, with room for it or none; a header that is
 -- too long; all turns are used up; there is no room to go on, before the greeting was answered or for a frame; what was done
 -- on a slot, with whether it was kept on disk, on the catalogue, with the clock, or with the dice; a plan comes to its end; an
 -- answer is sent, whole or in part; memory is wanted.
@@ -31,6 +36,8 @@ pub data Event : Type 0 where
   Turn : Event
   Visit : Event
   Greeted : Bool → Event
+  Login : Bool → Event
+  Cast : Option (List ℕ) → Event
   Begin : Frame → Bool → Event
   Heard : List ℕ → Event
   Lost : List ℕ → Event
@@ -56,10 +63,10 @@ pub data Doing (PL : Type 0) : Type 0 where
   Busy : Option (List ℕ) → Task PL → Doing PL
   Leaving : List Arm → End → Doing PL
 
--- the bytes held, whether the greeting was accepted, what is kept, what it is doing, and what was sent so far
+-- the bytes held, how far its greeting or its login has come, what is kept, what it is doing, and what was sent so far
 pub record Mach (PL : Type 0) : Type 0 where
   pub held : List ℕ
-  pub greeted : Bool
+  pub greeted : Stage
   pub books : Books
   pub doing : Doing PL
   pub out : List ℕ
@@ -81,7 +88,7 @@ pub record IsPiece (bytes : List ℕ) : Type 0 where
 
 module _ {PL : Type 0} where
   abbrev pub fresh : Mach PL
-  fresh = record { held = []; greeted = false; books = no_books; doing = Rest; out = [] }
+  fresh = record { held = []; greeted = Waiting; books = no_books; doing = Rest; out = [] }
 
   abbrev pub back_to : Option (List ℕ) → Doing PL
   back_to None = Rest
@@ -108,29 +115,42 @@ module _ {PL : Type 0} where
   tells m back token kept after false = leaves m kept ends.WriteFault
 
   abbrev pub greets_back : Mach PL → ℕ → Bool → Mach PL
-  greets_back m used true = record m { held = drop used m.held; greeted = true; doing = Rest }
+  greets_back m used true = record m { held = drop used m.held; greeted = Admitted; doing = Rest }
   greets_back m used false = record m { doing = Leaving [] ends.WriteFault }
 
   abbrev pub turns_away : Mach PL → GreetFault → Bool → Mach PL
-  turns_away m fault true = record m { doing = Leaving [] (ends.Refused fault) }
-  turns_away m fault false = record m { doing = Leaving [] ends.WriteFault }
+  turns_away m why true = record m { doing = Leaving [] (ends.Refused why) }
+  turns_away m why false = record m { doing = Leaving [] ends.WriteFault }
+
+  -- A login goes on after a message that was sent whole, and after its last one frames follow.
+  abbrev pub lets_on : Mach PL → List ℕ → Gate → Bool → Mach PL
+  lets_on m rest gate true = record m { held = rest; greeted = At gate; doing = Rest }
+  lets_on m rest gate false = record m { doing = Leaving [] ends.WriteFault }
+
+  abbrev pub lets_in : Mach PL → List ℕ → Bool → Mach PL
+  lets_in m rest true = record m { held = rest; greeted = Admitted; doing = Rest }
+  lets_in m rest false = record m { doing = Leaving [] ends.WriteFault }
 
 -- an answer as bytes
 abbrev pub spoken : ℕ → Answer → List ℕ
 spoken token a = spelling (record { token = token; body = body a })
 
 module _ {PL : Type 0} (k : Talk PL) where
-  -- the visits were made, and no whole greeting or frame is held, so that recv is called
-  abbrev pub Unread : Bool → List ℕ → Type 0
-  Unread false held = Greets k.key held greeting.More
-  Unread true held = (front k.limits.frame held ≡ frames.More) × NoFrame k.limits.frame held
+  -- the visits were made, and no whole greeting, message of a login or frame is held, so that recv is called
+  abbrev pub Unread : Stage → List ℕ → Type 0
+  Unread Waiting held = Greets k.key held greeting.More
+  Unread (At gate) held = turn_of (account k) gate held ≡ gates.Waits
+  Unread Admitted held = (front k.limits.frame held ≡ frames.More) × NoFrame k.limits.frame held
 
   abbrev pub IsReady : Mach PL → Type 0
   IsReady m = (m.doing ≡ Visits []) × Unread m.greeted m.held
 
-  -- the body of a whole frame that is held, or what the greeting is answered with, may find no room
+  -- the body of a whole frame that is held, what the greeting is answered with, or the answer to a message of a login, may find no
+  -- room
   abbrev pub MayStarve : Mach PL → Type 0
-  MayStarve m = ((m.doing ≡ Visits []) × (m.greeted ≡ true) × HoldsFrame k.limits.frame m.held) ⊎ ((m.doing ≡ Rest) × (m.greeted ≡ false))
+  MayStarve m = ((m.doing ≡ Visits []) × (m.greeted ≡ Admitted) × HoldsFrame k.limits.frame m.held)
+      ⊎ (((m.doing ≡ Rest) × (m.greeted ≡ Admitted → ⊥))
+      ⊎ ((m.doing ≡ Visits []) × (next : gates.Turn) × InLogin k m.greeted m.held next × (next ≡ gates.Waits → ⊥)))
 
   -- one act on a slot: by a task, or in leaving
   pub record TaskRuns (m : Mach PL) (slot : ℕ) (order : Order) (reply : Told) (saved : Saved) (n : Mach PL) : Type 0 where
@@ -201,23 +221,36 @@ module _ {PL : Type 0} (k : Talk PL) where
     pub doing : m.doing ≡ Busy back task
     pub goes : n ≡ goes_on m back (wanted m.books task)
 
+  -- a message or the refusal of a login, of which this much was sent
+  abbrev pub LoginStep : Mach PL → Bool → Mach PL → Type 0
+  LoginStep m whole n = (m.doing ≡ Visits []) × (front : List ℕ)
+      × (((bytes rest : List ℕ) × (next : Gate) × InLogin k m.greeted m.held (gates.Says bytes rest next) × Sent whole bytes front × (n ≡ says (lets_on m rest next whole) front))
+      ⊎ (((bytes rest : List ℕ) × InLogin k m.greeted m.held (gates.Admits bytes rest) × Sent whole bytes front × (n ≡ says (lets_in m rest whole) front))
+      ⊎ ((why : LoginFault) × InLogin k m.greeted m.held (gates.Refuses why) × Sent whole (refusal (fault.Login why)) front × (n ≡ says (turns_away m (fault.Login why) whole) front))))
+
+  -- a roll of a login
+  abbrev pub CastStep : Mach PL → Option (List ℕ) → Mach PL → Type 0
+  CastStep m bytes n = (m.doing ≡ Visits []) × (x : InLogin k m.greeted m.held gates.Rolls) × (n ≡ record m { greeted = At (after_roll x.gate bytes); doing = Visits [] })
+
   abbrev pub GreetStep : Mach PL → Bool → Mach PL → Type 0
-  GreetStep m whole n = (m.doing ≡ Visits []) × (m.greeted ≡ false)
+  GreetStep m whole n = (m.doing ≡ Visits []) × (m.greeted ≡ Waiting)
       × (((used : ℕ) × Greets k.key m.held (greeting.Accepted used) × (front : List ℕ) × Sent whole accepted front × (n ≡ says (greets_back m used whole) front))
-      ⊎ ((fault : GreetFault) × Greets k.key m.held (greeting.Refused fault) × (front : List ℕ) × Sent whole (refusal fault) front × (n ≡ says (turns_away m fault whole) front)))
+      ⊎ ((why : GreetFault) × Greets k.key m.held (greeting.Refused why) × (front : List ℕ) × Sent whole (refusal why) front × (n ≡ says (turns_away m why whole) front)))
 
   abbrev pub Step : Mach PL → Event → Mach PL → Type 0
   Step m Turn n = (m.doing ≡ Rest) × (n ≡ record m { books = record m.books { waiting = [] }; doing = Visits m.books.waiting })
   Step m Visit n = (token : ℕ) × (left : List ℕ) × (m.doing ≡ Visits (token ∷ left)) × (n ≡ goes_on m (Some left) (visit k m.books token))
   Step m (Greeted whole) n = GreetStep m whole n
-  Step m (Begin frame is_read) n = (rest : List ℕ) × (m.doing ≡ Visits []) × (m.greeted ≡ true) × Fits k.limits.frame frame × (m.held ≡ spelling frame ++ rest)
+  Step m (Login whole) n = LoginStep m whole n
+  Step m (Cast bytes) n = CastStep m bytes n
+  Step m (Begin frame is_read) n = (rest : List ℕ) × (m.doing ≡ Visits []) × (m.greeted ≡ Admitted) × Fits k.limits.frame frame × (m.held ≡ spelling frame ++ rest)
       × (n ≡ goes_on (record m { held = rest }) None (takes_up k m.books frame.token frame.body is_read))
   Step m (Heard bytes) n = IsReady m × IsPiece bytes × (n ≡ record m { held = m.held ++ bytes; doing = Rest })
   Step m (Lost bytes) n = IsReady m × IsPiece bytes × (n ≡ leaves (record m { held = m.held ++ bytes }) m.books ends.Memory)
   Step m Quiet n = IsReady m × (n ≡ record m { doing = Rest })
   Step m Finish n = IsReady m × (n ≡ leaves m m.books (end_of m.held))
   Step m Broken n = IsReady m × (n ≡ leaves m m.books ends.ReadFault)
-  Step m (Long len) n = (m.doing ≡ Visits []) × (m.greeted ≡ true) × Over k.limits.frame m.held len × (n ≡ leaves m m.books (ends.TooLong len))
+  Step m (Long len) n = (m.doing ≡ Visits []) × (m.greeted ≡ Admitted) × Over k.limits.frame m.held len × (n ≡ leaves m m.books (ends.TooLong len))
   Step m Wear n = (m.doing ≡ Rest) × (n ≡ leaves m m.books ends.Worn)
   Step m Poor n = MayStarve m × (n ≡ leaves m m.books ends.Memory)
   Step m (On slot (Ran place order reply) saved) n = TaskRuns m slot order reply saved n ⊎ ((arm : Arm) × (order ≡ close_order arm.feed) × LeavesArm m slot arm n)
@@ -274,7 +307,8 @@ begun_of e = []
 abbrev pub begun : List Event → List Frame
 begun es = flat_map begun_of es
 
--- what each call of the clock and of the dice answered: a moment that was told, bytes that were rolled, or that it failed
+-- what each call of the clock and of the dice answered, in a login and for a plan: a moment that was told, bytes that were rolled, or
+-- that it failed
 abbrev pub clocked_of : Event → List (Option ℤ)
 clocked_of (Clock moment) = moment ∷ []
 clocked_of e = []
@@ -283,11 +317,27 @@ abbrev pub clocked : List Event → List (Option ℤ)
 clocked es = flat_map clocked_of es
 
 abbrev pub rolled_of : Event → List (Option (List ℕ))
+rolled_of (Cast bytes) = bytes ∷ []
 rolled_of (Dice bytes) = bytes ∷ []
 rolled_of e = []
 
 abbrev pub rolled : List Event → List (Option (List ℕ))
 rolled es = flat_map rolled_of es
+
+-- those of a login, and those for plans
+abbrev pub cast_of : Event → List (Option (List ℕ))
+cast_of (Cast bytes) = bytes ∷ []
+cast_of e = []
+
+abbrev pub casts : List Event → List (Option (List ℕ))
+casts es = flat_map cast_of es
+
+abbrev pub planned_of : Event → List (Option (List ℕ))
+planned_of (Dice bytes) = bytes ∷ []
+planned_of e = []
+
+abbrev pub planned : List Event → List (Option (List ℕ))
+planned es = flat_map planned_of es
 
 abbrev pub acts_of : ℕ → Event → List (Act Order Told Snap Seen)
 acts_of slot (On s act saved) = if nat_eq s slot then act ∷ [] else []

@@ -18,10 +18,17 @@ use Rattle.reql_story.specs.Requests.{Asked, Unreadable, Unplanned, Start, Conti
 use Rattle.reql_story.specs.Books.{Cursor, Open, Books, has_token, without, cursor_of, feed_of, is_open, opened, closed, with_rest, with_left, with_cursor, with_feed, waits}
 use Rattle.reql_story.specs.Bodies.{body, in_use, not_open, at_wait, too_long, full}
 
--- What a session is told, over plans PL: the key that its greeting must bring; its limits; what a body asks for; a plan's
--- next move, with noreply, the number of open cursors and feeds, and what was found so far; and the batch that it asks for.
+-- what a client must know: the key that a greeting by a key must bring, and the password of a login
+pub record Keys : Type 0 where
+  pub key : List ℕ
+  pub password : List ℕ
+
+-- What a session is told, over plans PL: the key that its greeting must bring, and the password of a login; its limits; what a body
+-- asks for; a plan's next move, with noreply, the number of open cursors and feeds, and what was found so far; and the batch that it
+-- asks for.
 pub record Talk (PL : Type 0) : Type 0 where
   pub key : List ℕ
+  pub password : List ℕ
   pub limits : Limits
   pub asked : List ℕ → Asked PL
   pub next : PL → Bool → ℕ → List Found → Move

@@ -2,8 +2,6 @@
 use Rattle.std.specs.Prelude.{◌≡◌, ◌≢◌, ◌<◌, ◌||◌, ℕ, ℤ, Bool, true, false, List, [], ◌++◌, length, Option, Some, None}
 use Rattle.reql_outside.specs.Tape.{Tape, Moves, recv_failed, send_failed, counted}
 use Rattle.reql_wire.specs.Frames.{Over}
-use Rattle.reql_wire.specs.Greeting.{Greets}
-use Rattle.reql_wire.specs.declared.greeter.Greeting.TheVariants as greeting
 use Rattle.reql_shared.specs.Acts.{Act, Acts}
 use Rattle.reql_shared.specs.Parts.{between}
 use Rattle.reql_shared.specs.Plays.{Plays}
@@ -19,6 +17,7 @@ use Rattle.reql_law.specs.Replies.{Answered as Told}
 use Rattle.reql_law.specs.declared.command.Order.{Order}
 use Rattle.reql_story.specs.Requests.{Arm}
 use Rattle.reql_story.specs.Tasks.{Talk}
+use Rattle.reql_story.specs.Logins.{Stage, IsRefused}
 use Rattle.reql_story.specs.Session.{Event, Mach, Leaving, Run, heard, idles, turns, over, clocked, rolled, acts_on, acts_on_names}
 use Rattle.reql_story.specs.Explained.{DeskShare, Life, AreHonest, Explained}
 use Rattle.reql_story.specs.declared.end.End.{End}
@@ -113,13 +112,14 @@ module _ {PL : Type 0} (k : Talk PL) where
     pub plays : DeskPlays x y events
     pub count : turns events ≡ n
 
-  -- when each end comes, by what is held and whether the input is over; a fault is told by the link's record alone
-  abbrev pub Why : End → List ℕ → Bool → Type 0
-  Why ends.Closed held is_over = (is_over ≡ true) × (held ≡ [])
-  Why (ends.Cut n) held is_over = (is_over ≡ true) × (n ≡ length held) × (0 < n)
-  Why (ends.Refused fault) held is_over = Greets k.key held (greeting.Refused fault)
-  Why (ends.TooLong len) held is_over = Over k.limits.frame held len
-  Why end held is_over = Unit {0}
+  -- when each end comes, by how far its greeting or its login has come, what is held and whether the input is over; a fault is told
+  -- by the link's record alone
+  abbrev pub Why : End → Stage → List ℕ → Bool → Type 0
+  Why ends.Closed stage held is_over = (is_over ≡ true) × (held ≡ [])
+  Why (ends.Cut n) stage held is_over = (is_over ≡ true) × (n ≡ length held) × (0 < n)
+  Why (ends.Refused fault) stage held is_over = IsRefused k fault stage held
+  Why (ends.TooLong len) stage held is_over = Over k.limits.frame held len
+  Why end stage held is_over = Unit {0}
 
   -- from x the session came to this end, with these arms still to be closed
   pub record Ended (t u : Tape) (x y : Place PL) (moments : List (Option ℤ)) (rolls : List (Option (List ℕ))) (end : End) (arms : List Arm) (n : ℕ) : Type 0 where
@@ -131,7 +131,7 @@ module _ {PL : Type 0} (k : Talk PL) where
     pub still : u.over ≡ (over events || t.over)
     pub clock : clocked events ≡ moments
     pub dice : rolled events ≡ rolls
-    pub why : Why end y.now.held u.over
+    pub why : Why end y.now.greeted y.now.held u.over
     pub plays : DeskPlays x y events
     pub count : turns events ≡ n
 

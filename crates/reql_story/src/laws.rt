@@ -7,7 +7,7 @@ ghost use Rattle.reql_story.specs.Continuing.{EachContinues};
 ghost use Rattle.reql_story.specs.Endings.{FeedsEnd};
 ghost use Rattle.reql_story.specs.Endings.{FeedsOpen, FeedsEnd};
 ghost use Rattle.reql_story.specs.Explained.{ExplainedBy};
-ghost use Rattle.reql_story.specs.Laws.{InOrder, FramesHandled, WornLate, FirstFailed, ValidCloses, OneMore, Learning, NothingLeft, FeedsHold, SkipsAreSent, TakesArePlaced, SubscribesArePlaced};
+ghost use Rattle.reql_story.specs.Laws.{InOrder, FramesHandled, LoginRollsFirst, WornLate, FirstFailed, ValidCloses, OneMore, Learning, NothingLeft, FeedsHold, SkipsAreSent, TakesArePlaced, SubscribesArePlaced};
 ghost use Rattle.reql_story.specs.Opened.{EachIsOpened};
 ghost use Rattle.reql_story.specs.Owed.{NothingKeptBack};
 ghost use Rattle.reql_story.specs.Printed.{FeedsAreTold, BatchesAreOfFeeds, TakesAreOfFeeds, AllIsSaid};
@@ -17,20 +17,26 @@ ghost use Rattle.reql_story.specs.Waiting.{StartsToWait, WaitsOn, NothingWasTher
 
 use crate::planning::Planning;
 
-/// What came in was handled in order, frame by frame, after a greeting, or is held.
+/// What came in was handled in order, frame by frame, after a greeting or a login, or is held.
 pub fn in_order<F: Planning>()
     ensures { (f : F) → InOrder (F.talk f) }
 {}
 
 /// Every whole frame that an explained session was given was handled, in order, unless it ended by a failed send, worn,
-/// or for want of memory: what it held at its end is no whole greeting or frame where its input ended or failed, the
-/// header that is too long, or the greeting that was refused.
+/// or for want of memory: what it held at its end is no whole greeting, message of a login or frame where its input ended
+/// or failed, the header that is too long, or the greeting or the message that was refused. Frames are handled only after
+/// a greeting that was accepted or a login that was admitted.
 pub fn frames_handled<F: Planning>()
     ensures { (f : F) → FramesHandled (F.talk f) }
 {}
 
+/// The rolls of a login come before those of requests.
+pub fn login_rolls_first<F: Planning>()
+    ensures { (f : F) → LoginRollsFirst (F.talk f) }
+{}
+
 /// A session uses up all its turns only where what it was given, twice over, with its idle receives and two more, is above
-/// their limit: each turn takes a greeting, a frame or some bytes, is idle, or is the last.
+/// their limit: each turn takes a greeting, a message of a login, a frame or some bytes, is idle, or is the last.
 pub fn worn_late<F: Planning>()
     ensures { (f : F) → WornLate (F.talk f) }
 {}
@@ -89,7 +95,8 @@ pub fn each_continues<F: Planning>()
 {}
 
 /// What a session was given, with more to come only where its input wasn't over, is valid where it is nothing, or a
-/// greeting that is accepted and then frames within the limit alone. Then the session handled the first of these frames,
+/// greeting that is accepted, or a login that is admitted by the session's own rolls, and then frames within the limit
+/// alone. Then the session handled the first of these frames,
 /// in order, and is never cut, refused or told of a header that is too long: it closed, as its input was over, with every
 /// frame handled, or a receive or a send failed, its turns were too few, or memory was wanted.
 pub fn valid_closes<F: Planning>()

@@ -24,6 +24,10 @@ pub trait Planner: Planning {
     fn key(&self) -> &[u8]
         ensures { result.now ≡ (Self.talk self.now).key };
 
+    /// The password of a login.
+    fn password(&self) -> &[u8]
+        ensures { result.now ≡ (Self.talk self.now).password };
+
     fn limits(&self) -> &Limits
         ensures { result.now ≡ (Self.talk self.now).limits };
 

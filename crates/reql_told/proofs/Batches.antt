@@ -14,4 +14,4 @@ lesser_min : (m n : ℕ) → lesser m n ≡ min m n
 lesser_min m n = lesser_by m n (nat_lt m n) refl
 
 pub batches_agree : BatchesAgree
-batches_agree key limits plan = lesser_min plan.batch limits.batch
+batches_agree keys limits plan = lesser_min plan.batch limits.batch

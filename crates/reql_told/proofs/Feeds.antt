@@ -189,14 +189,14 @@ of_move (requests.answered o) n order h = absurd (cc (h))
 of_move (requests.moves q) n order h = ap requests.moves (of_ask q n order h)
 
 pub all_feeds_are_read : AllFeedsAreRead
-all_feeds_are_read key limits body noreply plan quiet count found n order spec is asks opens =
+all_feeds_are_read keys limits body noreply plan quiet count found n order spec is asks opens =
     let good = of_body noreply plan body is in
     let hs : List plans.Heard = map heard_of found in
     asked_feeds_are_read plan (setting_of limits quiet count) hs n order spec good.0 good.1
     (of_move (plan_next plan (setting_of limits quiet count) hs) n order asks) opens
 
 pub all_feeds_are_theirs : AllFeedsAreTheirs
-all_feeds_are_theirs key limits body noreply plan quiet count found n order spec is asks opens =
+all_feeds_are_theirs keys limits body noreply plan quiet count found n order spec is asks opens =
     let good = of_body noreply plan body is in
     let hs : List plans.Heard = map heard_of found in
     each_is_of_its_term plan (setting_of limits quiet count) hs n order spec good.0 good.1
@@ -295,11 +295,11 @@ module _ (limits : Limits) (plan : Plan) (quiet : Bool) (count : ℕ) (found : L
   }
 
 pub all_feeds_are_asked_in_turn : AllFeedsAreAskedInTurn
-all_feeds_are_asked_in_turn key limits body noreply plan quiet count found is c =
+all_feeds_are_asked_in_turn keys limits body noreply plan quiet count found is c =
     run_as_asked limits plan quiet count found (held_by limits plan quiet count found c) _ (feeds_are_asked_in_turn plan (setting_of limits quiet count) (map heard_of found) c)
 
 pub all_run_no_other_feeds : AllRunNoOtherFeeds
-all_run_no_other_feeds key limits body noreply plan quiet count found is =
+all_run_no_other_feeds keys limits body noreply plan quiet count found is =
     let good = of_body noreply plan body is in
     elim (no_other_feeds_are_asked plan (setting_of limits quiet count) (map heard_of found) good.0 good.1) [
       | inl none ↦ inl (run_along (next_of limits plan quiet count found) found ∙ ap (map asked_of) none)
@@ -307,7 +307,7 @@ all_run_no_other_feeds key limits body noreply plan quiet count found is =
     ]
 
 pub all_feeds_end_with_their_own : AllFeedsEndWithTheirOwn
-all_feeds_end_with_their_own key limits body noreply plan quiet count found arms notes items is ends =
+all_feeds_end_with_their_own keys limits body noreply plan quiet count found arms notes items is ends =
     let good = of_body noreply plan body is in
     let hs : List plans.Heard = map heard_of found in
     let told = of_end (plan_next plan (setting_of limits quiet count) hs) arms notes items ends in
@@ -321,22 +321,22 @@ closes_so e why (k ∷ ks) [] = refl
 closes_so e why (k ∷ ks) (h ∷ hs) = closes_so e why ks hs
 
 pub all_faulty_feeds_are_refused : AllFaultyFeedsAreRefused
-all_faulty_feeds_are_refused key limits body noreply plan quiet count found is c why h =
+all_faulty_feeds_are_refused keys limits body noreply plan quiet count found is c why h =
     ap move_of (faulty_feeds_are_refused plan (setting_of limits quiet count) (map heard_of found) c why h)
 
 pub all_crowded_feeds_are_refused : AllCrowdedFeedsAreRefused
-all_crowded_feeds_are_refused key limits body noreply plan quiet count found is c x h full =
+all_crowded_feeds_are_refused keys limits body noreply plan quiet count found is c x h full =
     ap move_of (crowded_feeds_are_refused plan (setting_of limits quiet count) (map heard_of found) c x h full)
 
 pub all_next_feeds_are_run : AllNextFeedsAreRun
-all_next_feeds_are_run key limits body noreply plan quiet count found is c before o behind opened h each =
+all_next_feeds_are_run keys limits body noreply plan quiet count found is c before o behind opened h each =
     ap move_of (next_feed_is_asked plan (setting_of limits quiet count) (map heard_of found) c before o behind opened h each)
 
 pub all_open_feeds_are_told : AllOpenFeedsAreTold
-all_open_feeds_are_told key limits body noreply plan quiet count found is c opened each =
+all_open_feeds_are_told keys limits body noreply plan quiet count found is c opened each =
     ap move_of (open_feeds_are_told plan (setting_of limits quiet count) (map heard_of found) c opened each)
 
 pub all_denied_feeds_are_closed : AllDeniedFeedsAreClosed
-all_denied_feeds_are_closed key limits body noreply plan quiet count found is c d =
+all_denied_feeds_are_closed keys limits body noreply plan quiet count found is c d =
     ap move_of (denied_feeds_are_closed plan (setting_of limits quiet count) (map heard_of found) c d)
     ∙ closes_so (held_by limits plan quiet count found c) d.denial.why d.denial.closes d.rest

@@ -25,26 +25,26 @@ looks_of next (f ∷ found) =
     ∙ ap (λ ls. of_plans.look_in (next []) (Some (heard_of f)) ++ ls) (looks_of (λ more. next (heard_of f ∷ more)) found)
 
 pub all_read_slots_are_looked_at : AllReadSlotsAreLookedAt
-all_read_slots_are_looked_at key limits body noreply plan quiet count found is r =
+all_read_slots_are_looked_at keys limits body noreply plan quiet count found is r =
     looks_of (plan_next plan (setting_of limits quiet count)) found ∙ of_plan.read_slots_are_looked_at plan (setting_of limits quiet count) (map heard_of found) r
 
 pub all_look_at_no_others : AllLookAtNoOthers
-all_look_at_no_others key limits body noreply plan quiet count found is = elim (of_plan.no_others_are_looked_at plan (setting_of limits quiet count) (map heard_of found)) [
+all_look_at_no_others keys limits body noreply plan quiet count found is = elim (of_plan.no_others_are_looked_at plan (setting_of limits quiet count) (map heard_of found)) [
   | inl none ↦ inl (looks_of (plan_next plan (setting_of limits quiet count)) found ∙ none)
   | inr r ↦ inr r
 ]
 
 pub all_are_seen_at_their_slots : AllAreSeenAtTheirSlots
-all_are_seen_at_their_slots key limits body noreply plan quiet count found is r =
+all_are_seen_at_their_slots keys limits body noreply plan quiet count found is r =
     looks_of (plan_next plan (setting_of limits quiet count)) found ∙ of_plan.each_is_seen_at_its_slot plan (setting_of limits quiet count) (map heard_of found) r
 
 pub all_terms_go_on_in_what_was_seen : AllTermsGoOnInWhatWasSeen
-all_terms_go_on_in_what_was_seen key limits body noreply plan quiet count found is r =
+all_terms_go_on_in_what_was_seen keys limits body noreply plan quiet count found is r =
     ap move_of (of_plan.terms_go_on_in_what_was_seen plan (setting_of limits quiet count) (map heard_of found) r)
 
 pub all_values_are_of_what_was_seen : AllValuesAreOfWhatWasSeen
-all_values_are_of_what_was_seen key limits body noreply plan quiet count found is r reads wanted =
+all_values_are_of_what_was_seen keys limits body noreply plan quiet count found is r reads wanted =
     ap move_of (of_plan.values_are_of_what_was_seen plan (setting_of limits quiet count) (map heard_of found) r reads wanted)
 
 pub all_dropped_tables_are_told : AllDroppedTablesAreTold
-all_dropped_tables_are_told key limits body noreply plan quiet count found is r = ap move_of (of_plan.dropped_tables_are_told plan (setting_of limits quiet count) (map heard_of found) r)
+all_dropped_tables_are_told keys limits body noreply plan quiet count found is r = ap move_of (of_plan.dropped_tables_are_told plan (setting_of limits quiet count) (map heard_of found) r)

@@ -179,8 +179,8 @@ query_of : (body : List ℕ) (q : Result Query ReadFault) → body_shaped body �
 query_of body q is = by_text (is_utf8 body) (reads.read body) ∙ ap (λ z. z >>= query_by) is
 
 pub first_refusal : FirstRefusal
-first_refusal key limits b token body w opts is =
-    let k : Talk Plan = talk key limits in
+first_refusal keys limits b token body w opts is =
+    let k : Talk Plan = talk keys limits in
     let q : Result queries.Asked ReadFault = query_by (start w opts) in
     let fits : Fits (read w) q = fits_with queries.start (λ f s. refl) (read w) (settings_of opts) in
     let as_query : Tells k b token (is_open token b) (asked_by (text_is_quiet body) q) q (reading_refusals (faults_of (start w opts)) ++ planning_refusals (read w)) =
@@ -196,7 +196,7 @@ shape_by quiet fault.BadShape h = refl
 shape_by quiet e h = absurd h
 
 pub shape_refusal : ShapeRefusal
-shape_refusal key limits b token body e is shape =
-    let k : Talk Plan = talk key limits in
+shape_refusal keys limits b token body e is shape =
+    let k : Talk Plan = talk keys limits in
     ap (λ q. begin k b token (asked_by (text_is_quiet body) q)) (query_of body (Err e) is)
     ∙ ap (λ a. begin k b token a) (shape_by (text_is_quiet body) e shape)

@@ -12,6 +12,7 @@ use Rattle.reql_plan_law.specs.Reads.{read_slots}
 use Rattle.reql_plan_law.specs.Request.{request, next}
 use Rattle.reql_plan_law.specs.Texts.{dropped_text}
 use Rattle.reql_story.specs.Requests.{Move, LookSlot, Start, Ends, Found}
+use Rattle.reql_story.specs.Tasks.{Keys}
 use Rattle.reql_told.specs.Told.{talk, heard_of, setting_of, answered_of, move_of}
 
 -- ---- the looks, each with what it found, if it found anything yet, as the plan hears it
@@ -39,35 +40,35 @@ module _ (limits : Limits) (plan : Plan) (quiet : Bool) (count : ℕ) (found : L
 -- A body's plan looks at the slots that its term reads, by rising number, each once there was a table at the one before it; and whatever its moves
 -- find, it looks at no others.
 abbrev pub AllReadSlotsAreLookedAt : Type 0
-AllReadSlotsAreLookedAt = (key : List ℕ) (limits : Limits) (body : List ℕ) (noreply : Bool) (plan : Plan) (quiet : Bool) (count : ℕ) (found : List Found)
-    → (talk key limits).asked body ≡ Start noreply plan → (r : Reads limits plan quiet count found)
-    → looks_along ((talk key limits).next plan quiet count) found ≡ in_turn (read_slots r.carried) r.rest
+AllReadSlotsAreLookedAt = (keys : Keys) (limits : Limits) (body : List ℕ) (noreply : Bool) (plan : Plan) (quiet : Bool) (count : ℕ) (found : List Found)
+    → (talk keys limits).asked body ≡ Start noreply plan → (r : Reads limits plan quiet count found)
+    → looks_along ((talk keys limits).next plan quiet count) found ≡ in_turn (read_slots r.carried) r.rest
 
 abbrev pub AllLookAtNoOthers : Type 0
-AllLookAtNoOthers = (key : List ℕ) (limits : Limits) (body : List ℕ) (noreply : Bool) (plan : Plan) (quiet : Bool) (count : ℕ) (found : List Found)
-    → (talk key limits).asked body ≡ Start noreply plan → (looks_along ((talk key limits).next plan quiet count) found ≡ []) ⊎ Reads limits plan quiet count found
+AllLookAtNoOthers = (keys : Keys) (limits : Limits) (body : List ℕ) (noreply : Bool) (plan : Plan) (quiet : Bool) (count : ℕ) (found : List Found)
+    → (talk keys limits).asked body ≡ Start noreply plan → (looks_along ((talk keys limits).next plan quiet count) found ≡ []) ⊎ Reads limits plan quiet count found
 
 -- Where tables were found, they were found at the looks at their own slots, in turn (that a look finds its own slot is the session machine's: its
 -- Step), and the term goes on over just these.
 abbrev pub AllAreSeenAtTheirSlots : Type 0
-AllAreSeenAtTheirSlots = (key : List ℕ) (limits : Limits) (body : List ℕ) (noreply : Bool) (plan : Plan) (quiet : Bool) (count : ℕ) (found : List Found)
-    → (talk key limits).asked body ≡ Start noreply plan → (r : HasFound limits plan quiet count found)
-    → looks_along ((talk key limits).next plan quiet count) found ≡ map (λ (x : Sight). (x.slot, Some (plans.looked x.at))) r.sights
+AllAreSeenAtTheirSlots = (keys : Keys) (limits : Limits) (body : List ℕ) (noreply : Bool) (plan : Plan) (quiet : Bool) (count : ℕ) (found : List Found)
+    → (talk keys limits).asked body ≡ Start noreply plan → (r : HasFound limits plan quiet count found)
+    → looks_along ((talk keys limits).next plan quiet count) found ≡ map (λ (x : Sight). (x.slot, Some (plans.looked x.at))) r.sights
 
 abbrev pub AllTermsGoOnInWhatWasSeen : Type 0
-AllTermsGoOnInWhatWasSeen = (key : List ℕ) (limits : Limits) (body : List ℕ) (noreply : Bool) (plan : Plan) (quiet : Bool) (count : ℕ) (found : List Found)
-    → (talk key limits).asked body ≡ Start noreply plan → (r : HasFound limits plan quiet count found)
-    → (talk key limits).next plan quiet count found ≡ move_of (sent (setting_of limits quiet count) (next (request (carried (held_by limits plan quiet count found r) r.reading.carried)) r.replies))
+AllTermsGoOnInWhatWasSeen = (keys : Keys) (limits : Limits) (body : List ℕ) (noreply : Bool) (plan : Plan) (quiet : Bool) (count : ℕ) (found : List Found)
+    → (talk keys limits).asked body ≡ Start noreply plan → (r : HasFound limits plan quiet count found)
+    → (talk keys limits).next plan quiet count found ≡ move_of (sent (setting_of limits quiet count) (next (request (carried (held_by limits plan quiet count found r) r.reading.carried)) r.replies))
 
 -- Where a table was found at each of the first slots, and none at the next, the answer, where one is wanted, is that the table of this one was dropped, by its names.
 abbrev pub AllDroppedTablesAreTold : Type 0
-AllDroppedTablesAreTold = (key : List ℕ) (limits : Limits) (body : List ℕ) (noreply : Bool) (plan : Plan) (quiet : Bool) (count : ℕ) (found : List Found)
-    → (talk key limits).asked body ≡ Start noreply plan → (r : Misses plan (map heard_of found))
-    → (talk key limits).next plan quiet count found ≡ Ends (answered_of (cond quiet plans.unsent (plans.stop (plans.fault (op_failed (dropped_text r.db r.table))))))
+AllDroppedTablesAreTold = (keys : Keys) (limits : Limits) (body : List ℕ) (noreply : Bool) (plan : Plan) (quiet : Bool) (count : ℕ) (found : List Found)
+    → (talk keys limits).asked body ≡ Start noreply plan → (r : Misses plan (map heard_of found))
+    → (talk keys limits).next plan quiet count found ≡ Ends (answered_of (cond quiet plans.unsent (plans.stop (plans.fault (op_failed (dropped_text r.db r.table))))))
 
 -- Where it reads alone and an answer is wanted, its value there is the answer, or why it has none; or that too many cursors are open.
 abbrev pub AllValuesAreOfWhatWasSeen : Type 0
-AllValuesAreOfWhatWasSeen = (key : List ℕ) (limits : Limits) (body : List ℕ) (noreply : Bool) (plan : Plan) (quiet : Bool) (count : ℕ) (found : List Found)
-    → (talk key limits).asked body ≡ Start noreply plan → (r : HasFound limits plan quiet count found) → is_reading r.reading.carried ≡ true → quiet ≡ false
-    → (talk key limits).next plan quiet count found
+AllValuesAreOfWhatWasSeen = (keys : Keys) (limits : Limits) (body : List ℕ) (noreply : Bool) (plan : Plan) (quiet : Bool) (count : ℕ) (found : List Found)
+    → (talk keys limits).asked body ≡ Start noreply plan → (r : HasFound limits plan quiet count found) → is_reading r.reading.carried ≡ true → quiet ≡ false
+    → (talk keys limits).next plan quiet count found
     ≡ Ends (answered_of (told_as (held_by limits plan quiet count found r) (shown_in (held_by limits plan quiet count found r).world r.reading.carried)))

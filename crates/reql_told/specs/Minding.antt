@@ -19,7 +19,7 @@ use Rattle.reql_plan_law.specs.Request as requests
 use Rattle.reql_plan_law.proofs.Following.{plans_mind_each_step}
 use Rattle.reql_plan_law.proofs.Unsent.{unsent_only_with_noreply}
 use Rattle.reql_story.specs.Requests.{Arm, Opening, State, Shown, Answered, Unsent, Stream, Feed, Wanting, Move, RunSlot, Ends, Found, SawNames, Clocked, SawSlot, RanSlot, ChangedNames, Rolled}
-use Rattle.reql_story.specs.Tasks.{arms_said, arms_after, others}
+use Rattle.reql_story.specs.Tasks.{Keys, arms_said, arms_after, others}
 use Rattle.reql_story.specs.Minding.{has_arm, Minds, IsAside, IsOther, are_apart, IsWhole, PlansMind}
 use Rattle.reql_told.specs.Told.{heard_of, arm_of, shown_of, answered_of, asked_of, move_of, setting_of, moves_of, talk, feeds_of, comes_by}
 
@@ -316,8 +316,8 @@ ends_owe limits plan noreply count found arms a o e =
       bare = λ ds t. plans_mind_each_step.bare plan s hs (feeds_of arms) ds o (h ∙ ap requests.answered t);
     }))
 
-pub plans_are_told : (key : List ℕ) (limits : Limits) → PlansMind (talk key limits) (comes_by limits)
-plans_are_told key limits = record {
+pub plans_are_told : (keys : Keys) (limits : Limits) → PlansMind (talk keys limits) (comes_by limits)
+plans_are_told keys limits = record {
   begins = λ plan noreply count. plans_mind_each_step.begins plan (setting_of limits noreply count);
   runs = λ plan noreply count found arms slot order reply kept o e.
       let s : Setting = setting_of limits noreply count in

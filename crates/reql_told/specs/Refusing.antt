@@ -20,7 +20,7 @@ use Rattle.reql_plan_law.specs.declared.parts.Plan.{Plan}
 use Rattle.reql_story.specs.Bodies.{in_use}
 use Rattle.reql_story.specs.Books.{Books, is_open, opened}
 use Rattle.reql_story.specs.Requests.{Asked, Unreadable, Unplanned, Start, Answer, Client, Compile}
-use Rattle.reql_story.specs.Tasks.{Talk, Next, Planning, at, begin, refuse}
+use Rattle.reql_story.specs.Tasks.{Keys, Talk, Next, Planning, at, begin, refuse}
 use Rattle.reql_told.specs.Asking.{plan_of, asked}
 use Rattle.reql_told.specs.Told.{talk}
 
@@ -67,8 +67,8 @@ Begins k b token n a q [] = IsPlanned b token n q
 Begins k b token n a q (refusal ∷ more) = n ≡ refuse k b token (wants_none a) refusal
 
 abbrev pub FirstRefusal : Type 0
-FirstRefusal = (key : List ℕ) (limits : Limits) (b : Books) (token : ℕ) (body : List ℕ) (w : Written) (opts : Members) → body_shaped body ≡ Ok (start w opts) →
-    Begins (talk key limits) b token (begin (talk key limits) b token (asked body)) (asked body) (query_text body) (refusals b token w opts)
+FirstRefusal = (keys : Keys) (limits : Limits) (b : Books) (token : ℕ) (body : List ℕ) (w : Written) (opts : Members) → body_shaped body ≡ Ok (start w opts) →
+    Begins (talk keys limits) b token (begin (talk keys limits) b token (asked body)) (asked body) (query_text body) (refusals b token w opts)
 
 -- a body that is no JSON, or has not the shape of a query, is refused before all of these
 abbrev pub IsOfShape : ReadFault → Type 0
@@ -77,5 +77,5 @@ IsOfShape fault.BadShape = Unit {0}
 IsOfShape e = ⊥
 
 abbrev pub ShapeRefusal : Type 0
-ShapeRefusal = (key : List ℕ) (limits : Limits) (b : Books) (token : ℕ) (body : List ℕ) (e : ReadFault) → body_shaped body ≡ Err e → IsOfShape e →
-    begin (talk key limits) b token (asked body) ≡ refuse (talk key limits) b token (text_is_quiet body) (Client (fault_text e))
+ShapeRefusal = (keys : Keys) (limits : Limits) (b : Books) (token : ℕ) (body : List ℕ) (e : ReadFault) → body_shaped body ≡ Err e → IsOfShape e →
+    begin (talk keys limits) b token (asked body) ≡ refuse (talk keys limits) b token (text_is_quiet body) (Client (fault_text e))

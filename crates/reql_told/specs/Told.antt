@@ -11,7 +11,7 @@ use Rattle.reql_plan_law.specs.Minds.{Feeds, Comes}
 use Rattle.reql_plan_law.specs.Move as plans
 use Rattle.reql_plan_law.specs.Request as requests
 use Rattle.reql_story.specs.Requests.{Arm, Opening, State, Shown, Answered, Unsent, One, Stream, Feed, Fault, Wanting, Move, LookNames, TellTime, LookSlot, RunSlot, ChangeNames, Roll, Ends, Found, SawNames, Clocked, SawSlot, RanSlot, ChangedNames, Rolled}
-use Rattle.reql_story.specs.Tasks.{Talk}
+use Rattle.reql_story.specs.Tasks.{Keys, Talk}
 use Rattle.reql_told.specs.Asking.{asked}
 
 -- ---- what a move found, as a plan hears it
@@ -76,9 +76,12 @@ setting_of limits noreply count = record { noreply = noreply; batch = limits.bat
 abbrev pub moves_of : Limits → Plan → Bool → ℕ → List Found → Move
 moves_of limits plan noreply count found = move_of (plan_next plan (setting_of limits noreply count) (map heard_of found))
 
--- ---- what a session with a key and limits is told
-abbrev pub talk : List ℕ → Limits → Talk Plan
-talk key limits = record { key = key; limits = limits; asked = asked; next = moves_of limits; batch = λ plan. plan.batch }
+-- ---- what a session with a key, a password and limits is told
+abbrev pub keys_by : List ℕ → List ℕ → Keys
+keys_by key password = record { key = key; password = password }
+
+abbrev pub talk : Keys → Limits → Talk Plan
+talk keys limits = record { key = keys.key; password = keys.password; limits = limits; asked = asked; next = moves_of limits; batch = λ plan. plan.batch }
 
 -- ---- that a course of a plan comes by, with these arms open
 abbrev pub feeds_of : List Arm → Feeds

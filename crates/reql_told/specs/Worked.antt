@@ -25,7 +25,7 @@ use Rattle.reql_story.specs.Books.{Open, Books, no_books}
 use Rattle.reql_story.specs.Requests.{Arm, Found, SawNames, SawSlot, RanSlot, LookNames, LookSlot, RunSlot}
 use Rattle.reql_story.specs.Tasks.{Talk}
 use Rattle.reql_told.specs.Talks.{Line, Asks, Says, Turn, Frame, Visits, turned}
-use Rattle.reql_told.specs.Told.{talk}
+use Rattle.reql_told.specs.Told.{keys_by, talk}
 
 -- ---- in short
 abbrev database : ℕ → List (Bytes × ℕ) → Database
@@ -38,7 +38,7 @@ abbrev ns : Named
 ns = record { place = 0; dbs = (codes "test", database 0 ((codes "docs", 0) ∷ [])) ∷ (codes "zoo", database 1 []) ∷ []; slots = holds "test" "docs" ∷ [] }
 
 abbrev usual : Talk Plan
-usual = talk [] usual_limits
+usual = talk (keys_by [] []) usual_limits
 
 abbrev named : Found
 named = SawNames 0 ns

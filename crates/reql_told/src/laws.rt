@@ -1,6 +1,6 @@
 // Laws of sessions that plan ReQL.
 ghost use Rattle.reql_plan_law.specs.Looks.{ReadSlotsRise};
-ghost use Rattle.reql_told.specs.Laws.{PlansAreTold, BatchesAgree, InfoIsServers, AllInOrder, AllFramesHandled, AllWornLate, AllFirstFailed, AllAreAnswered, AllWaitForNothing, AllValidClose, AllKept, AllOneMore, AllLearning, AllNothingLeft, AllFeedsHold, AllSkipsAreSent, AllFeedsAreOpened, AllFeedsBegin, AllFeedsOpen, AllFeedsEnd, AllContinuesAreAnswered, AllNothingKeptBack, AllOfFeedsIsSent, AllFeedsAreTold, AllBatchesAreOfFeeds, AllBatchesAreFull, AllTakesAreOfFeeds, AllIsSaid, AllFeedsAreRead, AllFeedsAreTheirs, AllFeedsAreAskedInTurn, AllRunNoOtherFeeds, AllFeedsEndWithTheirOwn, AllFaultyFeedsAreRefused, AllCrowdedFeedsAreRefused, AllNextFeedsAreRun, AllOpenFeedsAreTold, AllDeniedFeedsAreClosed, AllArmsAreApart, AllTakesArePlaced, AllSubscribesArePlaced};
+ghost use Rattle.reql_told.specs.Laws.{PlansAreTold, BatchesAgree, InfoIsServers, AllInOrder, AllFramesHandled, AllLoginRollsFirst, AllWornLate, AllFirstFailed, AllAreAnswered, AllWaitForNothing, AllValidClose, AllKept, AllOneMore, AllLearning, AllNothingLeft, AllFeedsHold, AllSkipsAreSent, AllFeedsAreOpened, AllFeedsBegin, AllFeedsOpen, AllFeedsEnd, AllContinuesAreAnswered, AllNothingKeptBack, AllOfFeedsIsSent, AllFeedsAreTold, AllBatchesAreOfFeeds, AllBatchesAreFull, AllTakesAreOfFeeds, AllIsSaid, AllFeedsAreRead, AllFeedsAreTheirs, AllFeedsAreAskedInTurn, AllRunNoOtherFeeds, AllFeedsEndWithTheirOwn, AllFaultyFeedsAreRefused, AllCrowdedFeedsAreRefused, AllNextFeedsAreRun, AllOpenFeedsAreTold, AllDeniedFeedsAreClosed, AllArmsAreApart, AllTakesArePlaced, AllSubscribesArePlaced};
 ghost use Rattle.reql_told.specs.Looks.{AllAreSeenAtTheirSlots, AllDroppedTablesAreTold, AllLookAtNoOthers, AllReadSlotsAreLookedAt, AllTermsGoOnInWhatWasSeen, AllValuesAreOfWhatWasSeen};
 ghost use Rattle.reql_told.specs.Refusing.{FirstRefusal, ShapeRefusal};
 
@@ -69,8 +69,8 @@ pub fn server_is_told()
     ensures { InfoIsServers }
 {}
 
-/// The laws of explained sessions, whatever their key and their limits: what came in was handled in order; every whole
-/// frame was handled, but for a failed send, a worn session or want of memory; a session is worn only where more came than
+/// The laws of explained sessions, whatever their key, their password and their limits: what came in was handled in order; every whole
+/// frame was handled, but for a failed send, a worn session or want of memory; the rolls of a login come before those of requests; a session is worn only where more came than
 /// its turns may take; its first failed send ends it; each frame that wants an answer is given one before the next is taken,
 /// but for a CONTINUE that waits, and that one waits only where, visited in that very turn, it had nothing left of its feed and
 /// was given nothing by the arms that were taken from; a session that is given a valid input handles every frame of it and
@@ -81,6 +81,7 @@ pub fn server_is_told()
 pub fn sessions_hold()
     ensures in_order { AllInOrder }
     ensures frames_handled { AllFramesHandled }
+    ensures login_rolls_first { AllLoginRollsFirst }
     ensures worn_late { AllWornLate }
     ensures first_failed { AllFirstFailed }
     ensures each_is_answered { AllAreAnswered }
@@ -94,7 +95,7 @@ pub fn sessions_hold()
     ensures skips_are_sent { AllSkipsAreSent }
 {}
 
-/// The feeds that a session has open, whatever its key and its limits: each is that of a START of its own token, with its
+/// The feeds that a session has open, whatever its key, its password and its limits: each is that of a START of its own token, with its
 /// plan's arms, notes and batches; where a plan comes to a feed its first batch is the answer, and that is open from there on,
 /// or its client is told a fault; it is closed only by a fault, or by the answer to its STOP. A CONTINUE on one is answered by
 /// items that were left or taken, or by a fault that has a cause, and by no batch of nothing, where its batches have an item
@@ -117,7 +118,7 @@ pub fn feeds_are_told()
     ensures said { AllIsSaid }
 {}
 
-/// The arms of a session's feeds, and what its commands on them are answered, whatever its key and its limits: no feed that it
+/// The arms of a session's feeds, and what its commands on them are answered, whatever its key, its password and its limits: no feed that it
 /// has open has an arm twice, and no two have one in common; each Take is answered as the table of its slot says at its place,
 /// by Nothing only while that isn't dropped, and by Gone only when it was; and a Subscribe is answered Gone exactly where the
 /// table was dropped, and where it wasn't and its history has room, that the index is missing exactly where nothing is kept of the

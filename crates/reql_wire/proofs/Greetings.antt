@@ -1,4 +1,4 @@
-use Rattle.std.proofs.Common.{◌≡◌, ℕ, ◌+◌, ◌-◌, ◌<◌, ◌≤◌, ◌^◌, List, [], ◌++◌, length, take, drop, min, refl, sym, ap, subst, ◌∙◌, arith, append_assoc, length-append, length-drop, Bool, true, false, cond, ltb, eqb, inl, inr}
+use Rattle.std.proofs.Common.{◌≡◌, ℕ, ◌+◌, ◌-◌, ◌<◌, ◌≤◌, ◌^◌, List, [], ◌∷◌, ◌++◌, length, take, drop, min, lit<, refl, sym, ap, subst, ◌∙◌, arith, append_assoc, length-append, length-drop, Bool, true, false, cond, ltb, eqb, inl, inr}
 use Rattle.std.proofs.lemmas.List.{take_min, take_all, take_at, take-take, take-append-le, take-append-drop, drop-append-le, drop_at, drop-drop, length-take, length-take-le}
 use Rattle.std.proofs.lemmas.Slice.Eq.{bytes_eq-Decides}
 use Rattle.std.specs.Str.{bytes_eq}
@@ -6,7 +6,7 @@ use Rattle.std.proofs.Math.Seq.{take-append-add, drop-append-add}
 use Rattle.std.proofs.lemmas.Bool.{cases_lt, ltb-false, ltb-true, le-ltb, lt-ltb, eqb-true, eq-eqb}
 use Rattle.byteorder.specs.Numbers.{little_from-append, little_number-reads_back}
 use Rattle.reql_wire.specs.Frames.{IsBytes}
-use Rattle.reql_wire.specs.Greeting.{kept, field, field_at, version, protocol, longest_key, longest_greeting, greeting_by, protocol_verdict, key_verdict, length_verdict, verdict_of, Greets, Begins, EndsIn, Answers, Listening}
+use Rattle.reql_wire.specs.Greeting.{kept, field, field_at, version, protocol, longest_key, longest_greeting, greeting_by, protocol_verdict, key_verdict, length_verdict, login_version, other_verdict, verdict_of, Greets, Begins, EndsIn, CallsIn, Answers, Listening}
 use Rattle.reql_wire.specs.declared.greeter.Greeting.{Greeting}
 use Rattle.reql_wire.specs.declared.greeter.Greeting.TheVariants as greeting
 use Rattle.reql_wire.specs.declared.greeter.GreetFault.TheVariants as fault
@@ -90,8 +90,24 @@ stays key bytes more n = elim (cases_lt (length bytes) 4) [
   | inr long ↦
       let test = le-ltb (length bytes) 4 long in
       rw (test, le-ltb (length (bytes ++ more)) 4 (omega (arith, length-append bytes more)), field_at-append 0 bytes more (omega arith))
-      (cond_stays (eqb (field_at 0 bytes) version) (length_verdict key bytes) (length_verdict key (bytes ++ more)) (greeting.Refused (fault.BadVersion (field_at 0 bytes))) greeting.More
+      (cond_stays (eqb (field_at 0 bytes) version) (length_verdict key bytes) (length_verdict key (bytes ++ more)) (other_verdict (field_at 0 bytes)) greeting.More
       (λ e. n (rw test e)) (length_stays key bytes more))
+]
+
+-- another version decides, and isn't accepted
+
+other_decided : (got : ℕ) → other_verdict got ≡ greeting.More → ⊥
+unfolding other_verdict
+other_decided got h = elim (chosen (eqb got login_version) _ _ _ h) [
+  | inl p ↦ let e : greeting.Login 4 ≡ greeting.More = p.1 in cc
+  | inr p ↦ let e : greeting.Refused (fault.BadVersion got) ≡ greeting.More = p.1 in cc
+]
+
+other_not_accepted : (got used : ℕ) → other_verdict got ≡ greeting.Accepted used → ⊥
+unfolding other_verdict
+other_not_accepted got used h = elim (chosen (eqb got login_version) _ _ _ h) [
+  | inl p ↦ let e : greeting.Login 4 ≡ greeting.Accepted used = p.1 in cc
+  | inr p ↦ let e : greeting.Refused (fault.BadVersion got) ≡ greeting.Accepted used = p.1 in cc
 ]
 
 -- where more is wanted, few bytes are there
@@ -132,7 +148,7 @@ more_short key bytes h = elim (chosen (ltb (length bytes) 4) _ _ _ h) [
   | inl p ↦ omega (arith, ltb-true _ _ p.0)
   | inr p ↦ elim (chosen (eqb (field_at 0 bytes) version) _ _ _ p.1) [
     | inl q ↦ length_more key bytes q.1
-    | inr q ↦ absurd (let e : greeting.Refused (fault.BadVersion (field_at 0 bytes)) ≡ greeting.More = q.1 in cc)
+    | inr q ↦ absurd (other_decided (field_at 0 bytes) q.1)
   ]
 ]
 
@@ -172,7 +188,7 @@ unfolding verdict_of length_verdict
 whole key bytes used h = elim (chosen (ltb (length bytes) 4) _ _ _ h) [
   | inl p ↦ absurd (let e : greeting.More ≡ greeting.Accepted used = p.1 in cc)
   | inr p ↦ elim (chosen (eqb (field_at 0 bytes) version) _ _ _ p.1) [
-    | inr q ↦ absurd (let e : greeting.Refused (fault.BadVersion (field_at 0 bytes)) ≡ greeting.Accepted used = q.1 in cc)
+    | inr q ↦ absurd (other_not_accepted (field_at 0 bytes) used q.1)
     | inl q ↦ elim (chosen (ltb (length bytes) 8) _ _ _ q.1) [
       | inl r ↦ absurd (let e : greeting.More ≡ greeting.Accepted used = r.1 in cc)
       | inr r ↦ elim (chosen (ltb 1024 (field_at 4 bytes)) _ _ _ r.1) [
@@ -244,6 +260,13 @@ pub begins : (key bytes : List ℕ) (verdict : Greeting) → IsBytes bytes → G
 begins key bytes greeting.More each h = tt
 begins key bytes (greeting.Accepted used) each h = spelled key bytes used each h
 begins key bytes (greeting.Refused f) each h = tt
+begins key bytes (greeting.Login used) each h = tt
+
+pub begins_other : (key bytes : List ℕ) (got : ℕ) (verdict : Greeting) → verdict ≡ other_verdict got → Begins key bytes verdict
+begins_other key bytes got greeting.More e = tt
+begins_other key bytes got (greeting.Accepted used) e = absurd (other_not_accepted got used (sym e))
+begins_other key bytes got (greeting.Refused f) e = tt
+begins_other key bytes got (greeting.Login used) e = tt
 
 accepted_by_fields : (key bytes : List ℕ) (used : ℕ) → IsWhole key bytes used → Greets key bytes (greeting.Accepted used)
 unfolding verdict_of length_verdict key_verdict protocol_verdict
@@ -432,10 +455,114 @@ accepted_answer key heard piece own now n used p q h b e =
     (subst (λ k. Begins k (kept (heard ++ piece)) (greeting.Accepted n)) p (subst (λ t. Begins own t (greeting.Accepted n)) q b))
     e
 
-pub other_answer : (key heard piece own now : List ℕ) (verdict : Greeting) → own ≡ key → now ≡ kept (heard ++ piece) → Greets own now verdict → ((n : ℕ) → verdict ≡ greeting.Accepted n → ⊥) → Answers key heard piece verdict
-other_answer key heard piece own now greeting.More p q h none = greets_all key heard piece own now greeting.More p q h
-other_answer key heard piece own now (greeting.Accepted n) p q h none = absurd (none n refl)
-other_answer key heard piece own now (greeting.Refused f) p q h none = greets_all key heard piece own now (greeting.Refused f) p q h
+pub other_answer : (key heard piece own now : List ℕ) (verdict : Greeting) → own ≡ key → now ≡ kept (heard ++ piece) → Greets own now verdict → ((n : ℕ) → verdict ≡ greeting.Accepted n → ⊥) → ((n : ℕ) → verdict ≡ greeting.Login n → ⊥) → Answers key heard piece verdict
+other_answer key heard piece own now greeting.More p q h none never = greets_all key heard piece own now greeting.More p q h
+other_answer key heard piece own now (greeting.Accepted n) p q h none never = absurd (none n refl)
+other_answer key heard piece own now (greeting.Login n) p q h none never = absurd (never n refl)
+other_answer key heard piece own now (greeting.Refused f) p q h none never = greets_all key heard piece own now (greeting.Refused f) p q h
+
+-- ---- the version of a login
+
+-- it is there, where the verdict is that it is
+pub record IsCall (bytes : List ℕ) (used : ℕ) : Type 0 where
+  pub version_is : field_at 0 bytes ≡ login_version
+  pub there : 4 ≤ length bytes
+  pub used_is : used ≡ 4
+
+protocol_no_call : (len : ℕ) (bytes : List ℕ) (used : ℕ) → protocol_verdict len bytes ≡ greeting.Login used → ⊥
+unfolding protocol_verdict
+protocol_no_call len bytes used h = elim (chosen (ltb (length bytes) (12 + len)) _ _ _ h) [
+  | inl p ↦ let e : greeting.More ≡ greeting.Login used = p.1 in cc
+  | inr p ↦ elim (chosen (eqb (field_at (8 + len) bytes) protocol) _ _ _ p.1) [
+    | inl q ↦ let e : greeting.Accepted (12 + len) ≡ greeting.Login used = q.1 in cc
+    | inr q ↦ let e : greeting.Refused (fault.BadProtocol (field_at (8 + len) bytes)) ≡ greeting.Login used = q.1 in cc
+  ]
+]
+
+key_no_call : (key : List ℕ) (len : ℕ) (bytes : List ℕ) (used : ℕ) → key_verdict key len bytes ≡ greeting.Login used → ⊥
+unfolding key_verdict
+key_no_call key len bytes used h = elim (chosen (ltb (length bytes) (8 + len)) _ _ _ h) [
+  | inl p ↦ let e : greeting.More ≡ greeting.Login used = p.1 in cc
+  | inr p ↦ elim (chosen (bytes_eq (take len (drop 8 bytes)) key) _ _ _ p.1) [
+    | inl q ↦ protocol_no_call len bytes used q.1
+    | inr q ↦ let e : greeting.Refused fault.BadKey ≡ greeting.Login used = q.1 in cc
+  ]
+]
+
+length_no_call : (key bytes : List ℕ) (used : ℕ) → length_verdict key bytes ≡ greeting.Login used → ⊥
+unfolding length_verdict
+length_no_call key bytes used h = elim (chosen (ltb (length bytes) 8) _ _ _ h) [
+  | inl p ↦ let e : greeting.More ≡ greeting.Login used = p.1 in cc
+  | inr p ↦ elim (chosen (ltb 1024 (field_at 4 bytes)) _ _ _ p.1) [
+    | inl q ↦ let e : greeting.Refused (fault.KeyTooLong (field_at 4 bytes)) ≡ greeting.Login used = q.1 in cc
+    | inr q ↦ key_no_call key (field_at 4 bytes) bytes used q.1
+  ]
+]
+
+other_call : (got used : ℕ) → other_verdict got ≡ greeting.Login used → (got ≡ login_version) × (used ≡ 4)
+unfolding other_verdict
+other_call got used h = elim (chosen (eqb got login_version) _ _ _ h) [
+  | inl p ↦ (eqb-true _ _ p.0, let e : greeting.Login 4 ≡ greeting.Login used = p.1 in let f : used ≡ 4 = cc in f)
+  | inr p ↦ absurd (let e : greeting.Refused (fault.BadVersion got) ≡ greeting.Login used = p.1 in cc)
+]
+
+pub call : (key bytes : List ℕ) (used : ℕ) → Greets key bytes (greeting.Login used) → IsCall bytes used
+unfolding verdict_of
+call key bytes used h = elim (chosen (ltb (length bytes) 4) _ _ _ h) [
+  | inl p ↦ absurd (let e : greeting.More ≡ greeting.Login used = p.1 in cc)
+  | inr p ↦ elim (chosen (eqb (field_at 0 bytes) version) _ _ _ p.1) [
+    | inl q ↦ absurd (length_no_call key bytes used q.1)
+    | inr q ↦ let w = other_call (field_at 0 bytes) used q.1 in record { version_is = w.0; there = ltb-false _ _ p.0; used_is = w.1 }
+  ]
+]
+
+pub called : (key bytes : List ℕ) → 4 ≤ length bytes → field_at 0 bytes ≡ login_version → Greets key bytes (greeting.Login 4)
+unfolding verdict_of other_verdict
+called key bytes there is = rw (le-ltb (length bytes) 4 there, is) refl
+
+-- bytes of which more is wanted end within it
+call_after : (key before piece : List ℕ) → Greets key before greeting.More → Greets key (before ++ piece) (greeting.Login 4) → length before < 4
+call_after key before piece more h = elim (cases_lt (length before) 4) [
+  | inl short ↦ short
+  | inr long ↦
+      let w = call key (before ++ piece) 4 h in
+      let e : greeting.More ≡ greeting.Login 4 = sym more ∙ called key before long (sym (field_at-append 0 before piece long) ∙ w.version_is) in
+      absurd (let f : greeting.More ≡ greeting.Login 4 = e in cc)
+]
+
+pub calls_in : (key before piece : List ℕ) (n used : ℕ) → Greets key (before ++ piece) (greeting.Login n) → used ≡ n - length before → CallsIn key before piece used
+calls_in key before piece n used h e =
+    let w = call key (before ++ piece) n h in
+    let four : n ≡ 4 = w.used_is in
+    let greets : Greets key (before ++ piece) (greeting.Login 4) = h ∙ ap (λ k. greeting.Login k) four in
+    let size : length (before ++ piece) ≡ length before + length piece = length-append before piece in
+    let there : 4 ≤ length (before ++ piece) = w.there in
+    record {
+      called = greets;
+      taken = omega arith;
+      within = omega arith;
+      behind = λ more.
+          let short = call_after key before piece more greets in
+          let whole : length before + used ≡ 4 = omega arith in
+          subst (λ k. drop k (before ++ piece) ≡ drop used piece) whole (drop-append-add before piece used);
+    }
+
+pub login_answer : (key heard piece own now : List ℕ) (n used : ℕ) → own ≡ key → now ≡ kept (heard ++ piece) → Greets own now (greeting.Login n) → used ≡ n - length heard → Answers key heard piece (greeting.Login used)
+login_answer key heard piece own now n used p q h e = calls_in key heard piece n used (greets_all key heard piece own now (greeting.Login n) p q h) e
+
+-- it is these four bytes
+pub call_spelled : (key bytes : List ℕ) (used : ℕ) → IsBytes bytes → Greets key bytes (greeting.Login used) → (used ≡ 4) × (take 4 bytes ≡ 195 ∷ 189 ∷ 194 ∷ 52 ∷ [])
+unfolding field
+call_spelled key bytes used each h =
+    let w = call key bytes used h in
+    (w.used_is, sym (ap field (sym w.version_is) ∙ field_there 0 bytes each w.there))
+
+pub call_by : (key bytes : List ℕ) → take 4 bytes ≡ 195 ∷ 189 ∷ 194 ∷ 52 ∷ [] → Greets key bytes (greeting.Login 4)
+unfolding field
+call_by key bytes e =
+    let whole : field login_version ++ drop 4 bytes ≡ bytes = ap (λ t. t ++ drop 4 bytes) (sym e) ∙ take-append-drop 4 bytes in
+    let there : 4 ≤ length bytes = omega (arith, sym (length-take 4 bytes) ∙ ap length e) in
+    called key bytes there (ap (field_at 0) (sym whole) ∙ field_at-field [] (drop 4 bytes) 0 login_version refl (lit< tt))
 
 pub waits : (key heard piece own now : List ℕ) → own ≡ key → now ≡ kept (heard ++ piece) → Greets own now greeting.More → now ≡ heard ++ piece
 waits key heard piece own now p q h = q ∙ all_kept key (heard ++ piece) (ap (verdict_of key) (sym q) ∙ ap (λ k. verdict_of k now) (sym p) ∙ h)

@@ -2,6 +2,7 @@
 -- drivers).
 use Rattle.std.specs.Prelude.{◌≡◌, ℕ, ◌+◌, ◌-◌, ◌≤◌, nat_lt, ◌==◌, if◌then◌else◌, List, [], ◌∷◌, ◌++◌, length, take, drop, codes}
 use Rattle.std.specs.Str.{bytes_eq}
+use Rattle.reql_scram.specs.Faults.{refusal as login_refusal}
 use Rattle.byteorder.specs.Endian.{little_bytes, little_number}
 use Rattle.reql_wire.specs.declared.greeter.Greeting.{Greeting}
 use Rattle.reql_wire.specs.declared.greeter.Greeting.TheVariants as greeting
@@ -22,6 +23,10 @@ version = 1074539808
 
 abbrev pub protocol : ℕ
 protocol = 2120839367
+
+-- version 0x34c2bdc3 (the same: V1_0), with which a login begins
+abbrev pub login_version : ℕ
+login_version = 885177795
 
 -- the bytes of the longest key, and of the greeting with it
 abbrev pub longest_key : ℕ
@@ -57,11 +62,15 @@ length_verdict key bytes =
     then greeting.Refused (fault.KeyTooLong (field_at 4 bytes))
     else key_verdict key (field_at 4 bytes) bytes
 
+unfoldable pub other_verdict : ℕ → Greeting
+other_verdict got =
+    if got == login_version then greeting.Login 4 else greeting.Refused (fault.BadVersion got)
+
 unfoldable pub verdict_of : List ℕ → List ℕ → Greeting
 verdict_of key bytes =
     if nat_lt (length bytes) 4 then greeting.More
     else if field_at 0 bytes == version then length_verdict key bytes
-    else greeting.Refused (fault.BadVersion (field_at 0 bytes))
+    else other_verdict (field_at 0 bytes)
 
 abbrev pub Greets : List ℕ → List ℕ → Greeting → Type 0
 Greets key bytes verdict = verdict_of key bytes ≡ verdict
@@ -79,9 +88,17 @@ pub record EndsIn (key before piece : List ℕ) (used : ℕ) : Type 0 where
   pub within : used ≤ length piece
   pub behind : Greets key before greeting.More → before ++ piece ≡ greeting_by key ++ drop used piece
 
+-- the version of a login ends in a piece that came after some bytes, and has so many bytes of it
+pub record CallsIn (key before piece : List ℕ) (used : ℕ) : Type 0 where
+  pub called : Greets key (before ++ piece) (greeting.Login 4)
+  pub taken : used ≡ 4 - length before
+  pub within : used ≤ length piece
+  pub behind : Greets key before greeting.More → drop 4 (before ++ piece) ≡ drop used piece
+
 -- what a piece that came after some bytes makes of them
 abbrev pub Answers : List ℕ → List ℕ → List ℕ → Greeting → Type 0
 Answers key before piece (greeting.Accepted used) = EndsIn key before piece used
+Answers key before piece (greeting.Login used) = CallsIn key before piece used
 Answers key before piece answer = Greets key (before ++ piece) answer
 
 -- the key that a greeter wants, and what it keeps of the bytes that it heard
@@ -103,3 +120,4 @@ refusal (fault.BadVersion got) = codes "ERROR: unsupported protocol version" ++ 
 refusal (fault.KeyTooLong len) = codes "ERROR: authorization key too long" ++ 0 ∷ []
 refusal fault.BadKey = codes "ERROR: incorrect authorization key" ++ 0 ∷ []
 refusal (fault.BadProtocol got) = codes "ERROR: unsupported wire protocol" ++ 0 ∷ []
+refusal (fault.Login f) = login_refusal f

@@ -55,6 +55,21 @@ impl Feeder {
         self.bytes.len() - self.start
     }
 
+    /// The bytes that it holds.
+    pub fn bytes(&self) -> &[u8]
+        ensures { result.now ≡ self.now.held }
+    {
+        &self.bytes[self.start..]
+    }
+
+    /// Passes over the first so many bytes that it holds.
+    pub fn pass_over(&mut self, count: usize)
+        requires { count ≤ length self.old.held }
+        ensures { self.new ≡ record { limit = self.old.limit; held = drop count self.old.held } }
+    {
+        self.start += count;
+    }
+
     /// Gives it the next piece of the stream. An `Err` changes nothing.
     pub fn feed(&mut self, piece: &[u8]) -> Result<(), Memory>
         ensures ok { OnOk result

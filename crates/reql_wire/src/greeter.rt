@@ -3,6 +3,7 @@ ghost use Rattle.reql_wire.specs.Greeting.{Answers, Greets, accepted, kept, refu
 
 use crate::handshake::{LONGEST_KEY, verdict_of};
 use reql_memory::Memory;
+use reql_scram::LoginFault;
 use std::alloc::Global;
 use std::marker::Model;
 
@@ -17,6 +18,9 @@ pub enum Greeting {
     More,
     /// They begin with the greeting, which ends after so many bytes of the piece given now.
     Accepted { used: usize },
+    /// They begin with the version of a login, 0x34c2bdc3 (V1_0), which ends after so many bytes of the piece given
+    /// now.
+    Login { used: usize },
     /// They begin with something else.
     Refused(GreetFault),
 }
@@ -25,7 +29,7 @@ pub enum Greeting {
 /// first such field alone.
 #[derive(Clone, Copy, Debug, PartialEq, Eq)]
 pub enum GreetFault {
-    /// The version isn't V0_4, 0x400c2d20.
+    /// The version is neither V0_4, 0x400c2d20, nor that of a login.
     BadVersion { got: u32 },
     /// The key that is announced has more than 1024 bytes.
     KeyTooLong { len: u32 },
@@ -33,6 +37,8 @@ pub enum GreetFault {
     BadKey,
     /// The protocol isn't JSON, 0x7e6970c7.
     BadProtocol { got: u32 },
+    /// It began a login, which is refused. No greeter tells this one.
+    Login(LoginFault),
 }
 
 impl GreetFault {
@@ -45,6 +51,7 @@ impl GreetFault {
             GreetFault::KeyTooLong { .. } => b"ERROR: authorization key too long\0",
             GreetFault::BadKey => b"ERROR: incorrect authorization key\0",
             GreetFault::BadProtocol { .. } => b"ERROR: unsupported wire protocol\0",
+            GreetFault::Login(fault) => fault.answer(),
         }
     }
 }
@@ -108,6 +115,9 @@ impl Greeter {
         };
         match verdict_of(&self.key, &self.heard) {
             Greeting::Accepted { used } => Greeting::Accepted {
+                used: used.saturating_sub(before),
+            },
+            Greeting::Login { used } => Greeting::Login {
                 used: used.saturating_sub(before),
             },
             other => other,

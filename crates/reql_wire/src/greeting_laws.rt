@@ -1,8 +1,8 @@
-ghost use Rattle.std.specs.Prelude.{◌≡◌, ◌≤◌, ◌<◌, ◌+◌, ◌++◌, ℕ, List, length, take, drop};
+ghost use Rattle.std.specs.Prelude.{◌≡◌, ◌≤◌, ◌<◌, ◌+◌, ◌++◌, ℕ, List, [], ◌∷◌, length, take, drop};
 ghost use Rattle.reql_wire.specs.Frames.{IsBytes};
 ghost use Rattle.reql_wire.specs.Greeting.{Greets, greeting_by, kept, longest_greeting, longest_key};
 ghost use Rattle.reql_wire.specs.declared.greeter.Greeting.{Greeting};
-ghost use Rattle.reql_wire.specs.declared.greeter.Greeting.TheVariants.{Accepted, More};
+ghost use Rattle.reql_wire.specs.declared.greeter.Greeting.TheVariants.{Accepted, Login, More};
 
 /// What a greeter keeps is enough: what it and a piece are as a greeting, all bytes are.
 pub fn greeting_is_cut()
@@ -31,6 +31,14 @@ pub fn one_greeting_by_a_key()
     ensures spelled { (key bytes : List ℕ) (used : ℕ) → IsBytes bytes →
         Greets key bytes (Accepted used) →
         (used ≡ 12 + length key) × (bytes ≡ greeting_by key ++ drop used bytes) }
+{}
+
+/// The version of a login is these four bytes, c3 bd c2 34, whatever follows it.
+pub fn one_login()
+    ensures called { (key bytes : List ℕ) → take 4 bytes ≡ 195 ∷ 189 ∷ 194 ∷ 52 ∷ [] →
+        Greets key bytes (Login 4) }
+    ensures spelled { (key bytes : List ℕ) (used : ℕ) → IsBytes bytes → Greets key bytes (Login used) →
+        (used ≡ 4) × (take 4 bytes ≡ 195 ∷ 189 ∷ 194 ∷ 52 ∷ []) }
 {}
 
 /// An accepted greeting is accepted by its own bytes, which are all there.

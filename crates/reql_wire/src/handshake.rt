@@ -1,12 +1,15 @@
 // What bytes are as a greeting, one field after another.
 ghost use Rattle.std.specs.Prelude.{◌≡◌, ◌+◌, ◌≤◌, length, take, drop};
-ghost use Rattle.reql_wire.specs.Greeting.{Begins, Greets, field_at, key_verdict, length_verdict, protocol_verdict};
+ghost use Rattle.reql_wire.specs.Greeting.{Begins, Greets, field_at, key_verdict, length_verdict, other_verdict, protocol_verdict};
 
 use crate::greeter::{GreetFault, Greeting};
 use byteorder::{ByteOrder, LittleEndian};
 
 /// Version V0_4 of the protocol (ql2.proto, VersionDummy).
 const VERSION: u32 = 0x400c_2d20;
+
+/// Version V1_0, with which a login begins (the same).
+const LOGIN_VERSION: u32 = 0x34c2_bdc3;
 
 /// Frames whose bodies are JSON (the same).
 const PROTOCOL: u32 = 0x7e69_70c7;
@@ -71,6 +74,17 @@ fn length_verdict(key: &[u8], bytes: &[u8]) -> Greeting
     key_verdict(key, len, bytes)
 }
 
+#[tactic(auto, unfolding(crate::specs::Greeting::other_verdict))]
+fn other_verdict(got: u32) -> Greeting
+    ensures { result ≡ other_verdict got }
+{
+    if got == LOGIN_VERSION {
+        Greeting::Login { used: 4 }
+    } else {
+        Greeting::Refused(GreetFault::BadVersion { got })
+    }
+}
+
 /// What the bytes are as a greeting by the key. `used` counts all bytes of an accepted one.
 #[tactic(auto, unfolding(crate::specs::Greeting::verdict_of))]
 pub(crate) fn verdict_of(key: &[u8], bytes: &[u8]) -> Greeting
@@ -82,7 +96,7 @@ pub(crate) fn verdict_of(key: &[u8], bytes: &[u8]) -> Greeting
     }
     let got = field_at(bytes, 0);
     if got != VERSION {
-        return Greeting::Refused(GreetFault::BadVersion { got });
+        return other_verdict(got);
     }
     length_verdict(key, bytes)
 }

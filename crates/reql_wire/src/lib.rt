@@ -22,7 +22,8 @@ pub use frame_laws::{
 };
 pub use greeter::{GreetFault, Greeter, Greeting, accepted_answer};
 pub use greeting_laws::{
-    greeting_is_cut, greeting_is_its_own, one_greeting_by_a_key, one_verdict, verdict_stands,
+    greeting_is_cut, greeting_is_its_own, one_greeting_by_a_key, one_login, one_verdict,
+    verdict_stands,
 };
 pub use handshake::LONGEST_KEY;
 pub use reading::HEADER_BYTES;

@@ -1,9 +1,9 @@
 use Rattle.std.proofs.Common.{◌≡◌, ◌∙◌, ◌++◌, length, sym, ap, arith}
 use Rattle.reql_wire.specs.Greeting.{Listening, kept}
 use Rattle.reql_wire.specs.declared.greeter.Greeting.TheVariants as greeting
-use Rattle.reql_wire.proofs.Greetings.{keeps, listening, accepted_answer, other_answer, waits}
+use Rattle.reql_wire.proofs.Greetings.{keeps, listening, accepted_answer, login_answer, other_answer, waits}
 use Rattle.reql_wire.proofs.greeter.Greeter.feed.Goals as goal
-use Rattle.reql_wire.proofs.greeter.Greeter.feed.Goals.{in-Accepted, in_default-verdict_of}
+use Rattle.reql_wire.proofs.greeter.Greeter.feed.Goals.{in-Accepted, in-Login, in_default-verdict_of}
 
 own_key : (c : goal.Joined-verdict_of) → c.self.inside.key.items ≡ c.args.self.now.key
 own_key c = ap (λ (g : Listening). g.key) c.self.view_is
@@ -26,15 +26,20 @@ returns-clause-answers c =
           rw w.result-is (accepted_answer c.args.self.now.key c.args.self.now.heard c.args.piece.now c.deref.result.now c.deref-2.result.now w.in-Accepted.used w.saturating_sub.result
           (c.deref.ensures.value ∙ own_key c) (c.deref-2.ensures.value ∙ now_heard c) w.in-Accepted.ensures.verdict w.in-Accepted.ensures.begins
           (omega (arith, w.saturating_sub.ensures, c.len-before.ensures, c.self.inside.heard.ok.0, ap length (own_heard c))))
+      | in-Login w ↦
+          rw w.result-is (login_answer c.args.self.now.key c.args.self.now.heard c.args.piece.now c.deref.result.now c.deref-2.result.now w.in-Login.used w.saturating_sub-in-Login.result
+          (c.deref.ensures.value ∙ own_key c) (c.deref-2.ensures.value ∙ now_heard c) w.in-Login.ensures.verdict
+          (omega (arith, w.saturating_sub-in-Login.ensures, c.len-before.ensures, c.self.inside.heard.ok.0, ap length (own_heard c))))
       | in_default-verdict_of w ↦
           rw w.result-is (other_answer c.args.self.now.key c.args.self.now.heard c.args.piece.now c.deref.result.now c.deref-2.result.now c.verdict_of.result
-          (c.deref.ensures.value ∙ own_key c) (c.deref-2.ensures.value ∙ now_heard c) c.verdict_of.ensures.verdict w.in_default-verdict_of.not-Accepted)
+          (c.deref.ensures.value ∙ own_key c) (c.deref-2.ensures.value ∙ now_heard c) c.verdict_of.ensures.verdict w.in_default-verdict_of.not-Accepted w.in_default-verdict_of.not-Login)
     ]
 
 pub returns-clause-waits : goal.returns-clause-waits
 returns-clause-waits c =
     λ more. elim c.match-verdict_of.branch [
       | in-Accepted w ↦ absurd (let e : greeting.Accepted w.saturating_sub.result ≡ greeting.More = sym w.result-is ∙ more in cc)
+      | in-Login w ↦ absurd (let e : greeting.Login w.saturating_sub-in-Login.result ≡ greeting.More = sym w.result-is ∙ more in cc)
       | in_default-verdict_of w ↦
           sym c.deref-2.ensures.value
           ∙ waits c.args.self.now.key c.args.self.now.heard c.args.piece.now c.deref.result.now c.deref-2.result.now (c.deref.ensures.value ∙ own_key c) (c.deref-2.ensures.value ∙ now_heard c) (c.verdict_of.ensures.verdict ∙ sym w.result-is ∙ more)
