@@ -1,5 +1,5 @@
 -- A session as its program has it: its link, its clock and its dice, its desk, and what it remembers.
-use Rattle.std.specs.Prelude.{◌≡◌, ◌≢◌, ℕ, ℤ, ◌+◌, Bool, true, List, [], ◌∷◌, flat_map, Option, Some, None}
+use Rattle.std.specs.Prelude.{◌≡◌, ◌≢◌, ℕ, ℤ, ◌+◌, true, List, [], ◌∷◌, flat_map, Option, Some, None}
 use Rattle.reql_outside.specs.Source.{Source, with_all}
 use Rattle.reql_outside.specs.Tape.{Tape, counted}
 use Rattle.reql_shared.specs.Sight.{Sight}
@@ -10,6 +10,7 @@ use Rattle.reql_law.specs.declared.command.Order.{Order}
 use Rattle.reql_story.specs.Requests.{Arm}
 use Rattle.reql_story.specs.Books.{Books, all_arms}
 use Rattle.reql_story.specs.Tasks.{Talk}
+use Rattle.reql_story.specs.Logins.{Stage}
 use Rattle.reql_story.specs.Session.{Doing, Mach, fresh}
 use Rattle.reql_story.specs.Explained.{Wears}
 use Rattle.reql_story.specs.Worlds.{Place, Goes, Ended, IsExplained}
@@ -79,11 +80,11 @@ module _ {PL : Type 0} where
   abbrev pub world_of : Tape → AtWork → Mach PL → World PL
   world_of tape w m = record { tape = tape; clock = w.clock; dice = w.dice; place = place_at w m }
 
-  abbrev pub mach_at : AtWork → List ℕ → Bool → Doing PL → Mach PL
-  mach_at w held greeted doing = record { held = held; greeted = greeted; books = w.books; doing = doing; out = [] }
+  abbrev pub mach_at : AtWork → List ℕ → Stage → Doing PL → Mach PL
+  mach_at w held stage doing = record { held = held; greeted = stage; books = w.books; doing = doing; out = [] }
 
-  abbrev pub world_at : Tape → AtWork → List ℕ → Bool → Doing PL → World PL
-  world_at tape w held greeted doing = world_of tape w (mach_at w held greeted doing)
+  abbrev pub world_at : Tape → AtWork → List ℕ → Stage → Doing PL → World PL
+  world_at tape w held stage doing = world_of tape w (mach_at w held stage doing)
 
 module _ {PL : Type 0} (k : Talk PL) where
   -- an end before all turns were used up, with all that is open still to be closed
@@ -93,9 +94,9 @@ module _ {PL : Type 0} (k : Talk PL) where
     pub ends : Ends k a (world_of tape w last) end (all_arms w.books) n
 
   -- it goes on so, or ends
-  abbrev pub Outcome : World PL → Tape → AtWork → List ℕ → Bool → Doing PL → ℕ → Option End → Type 0
-  Outcome a tape w held greeted doing n None = Runs k a (world_at tape w held greeted doing) n
-  Outcome a tape w held greeted doing n (Some end) = EndsHere a tape w end n
+  abbrev pub Outcome : World PL → Tape → AtWork → List ℕ → Stage → Doing PL → ℕ → Option End → Type 0
+  Outcome a tape w held stage doing n None = Runs k a (world_at tape w held stage doing) n
+  Outcome a tape w held stage doing n (Some end) = EndsHere a tape w end n
 
   -- all turns up to an end, or as many as there may be
   pub record Serves (a : World PL) (most : ℕ) (tape : Tape) (w : AtWork) (end : End) (n : ℕ) : Type 0 where

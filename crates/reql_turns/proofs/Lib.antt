@@ -1,2 +1,4 @@
 pub mod Greeted
 pub mod Frames
+pub mod Comings
+pub mod Exchanging

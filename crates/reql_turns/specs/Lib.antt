@@ -1,1 +1,3 @@
 pub mod Ears
+pub mod Logins
+pub mod Rolling

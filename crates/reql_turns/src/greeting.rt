@@ -2,26 +2,16 @@
 ghost use Rattle.std.specs.Prelude.{◌≡◌, [], length};
 ghost use Rattle.reql_wire.specs.Greeting.{Greets};
 ghost use Rattle.reql_story.specs.Tasks.{Talk};
-ghost use Rattle.reql_turns.specs.Ears.{Hears, IsEnd};
+ghost use Rattle.reql_turns.specs.Ears.{Hears};
 ghost use Rattle.reql_turns.specs.declared.ears.Phase.TheVariants as phases;
 
 use crate::ears::{Ears, Phase};
 use crate::handler::Handler;
+use crate::receiving::end_of;
 use reql_hearing::{Heard, hear};
 use reql_outside::{Link, send_all};
 use reql_story::End;
 use reql_wire::{GreetFault, Greeting, accepted_answer};
-
-/// Where no more comes while so many bytes are held.
-pub(crate) fn end_of(held: usize) -> End
-    ensures { IsEnd held result }
-{
-    if held == 0 {
-        End::Closed
-    } else {
-        End::Cut { held }
-    }
-}
 
 /// Receives once, where the greeting isn't whole yet.
 pub(crate) fn hear_more<H: Handler<L>, L: Link>(
@@ -40,6 +30,10 @@ pub(crate) fn hear_more<H: Handler<L>, L: Link>(
         Heard::More => None,
         Heard::Accepted => {
             ears.phase = Phase::Whole;
+            None
+        }
+        Heard::Called => {
+            ears.phase = Phase::Called;
             None
         }
         Heard::Refused(fault) => {

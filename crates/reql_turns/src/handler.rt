@@ -1,15 +1,17 @@
 // What answers the frames of a session.
-ghost use Rattle.std.specs.Prelude.{◌≡◌, ◌++◌, ℕ, List, [], Bool, true};
+ghost use Rattle.std.specs.Prelude.{◌≡◌, ◌++◌, ℕ, List, []};
 ghost use Rattle.reql_wire.specs.Frames.{Fits, spelling};
 ghost use Rattle.reql_hall.specs.Rooms.{Rooms};
 ghost use Rattle.reql_catalog.specs.declared.catalog.Catalog.{Catalog};
 ghost use Rattle.reql_law.specs.Machine.{State};
 ghost use Rattle.reql_story.specs.Books.{all_arms};
+ghost use Rattle.reql_story.specs.Logins.{Admitted, Stage};
 ghost use Rattle.reql_story.specs.Session.{Mach, Leaving, Rest, Visits};
 ghost use Rattle.reql_story.specs.Tasks.{Talk};
 ghost use Rattle.reql_story.specs.Worlds.{Does};
 ghost use Rattle.reql_story.specs.declared.end.End.{End as AnEnd};
 ghost use Rattle.reql_talk.specs.World.{AtWork, place_at, world_at, Outcome};
+ghost use Rattle.reql_turns.specs.Rolling.{Rolls};
 
 use reql_law::Limits;
 use reql_outside::Link;
@@ -30,11 +32,24 @@ pub trait Handler<L: Link> {
     // The hall at whose desk it works.
     ghost hall: { Self → Rooms State Catalog };
 
+    /// The key that a greeting must bring.
     fn key(&self) -> &[u8]
         ensures { result.now ≡ (talk self.now).key };
 
+    /// The password by which a login is made.
+    fn password(&self) -> &[u8]
+        ensures { result.now ≡ (talk self.now).password };
+
     fn limits(&self) -> &Limits
         ensures { result.now ≡ (talk self.now).limits };
+
+    /// Sixteen bytes of its dice, or none where they failed. It stays ready, and nothing else changes.
+    fn roll(&mut self) -> Option<[u8; 16]>
+        requires ready { ready self.old }
+        ensures ready { ready self.new }
+        ensures hall { hall self.new ≡ hall self.old }
+        ensures talk { talk self.new ≡ talk self.old }
+        ensures rolled { Rolls (work self.old) (work self.new) result };
 
     /// A turn begins: each waiting CONTINUE is visited. It stays ready.
     fn visit(&mut self, link: &mut L) -> Option<End>
@@ -42,9 +57,9 @@ pub trait Handler<L: Link> {
         ensures ready { ready self.new }
         ensures hall { hall self.new ≡ hall self.old }
         ensures talk { talk self.new ≡ talk self.old }
-        ensures visited { (held : List ℕ) (greeted : Bool) → Outcome (talk self.old)
-            (world_at (L.tape link.old) (work self.old) held greeted Rest) (L.tape link.new)
-            (work self.new) held greeted (Visits []) 1 result };
+        ensures visited { (held : List ℕ) (stage : Stage) → Outcome (talk self.old)
+            (world_at (L.tape link.old) (work self.old) held stage Rest) (L.tape link.new)
+            (work self.new) held stage (Visits []) 1 result };
 
     /// A frame is taken and answered, where all visits were made. It stays ready.
     fn handle(&mut self, link: &mut L, frame: &Frame) -> Option<End>
@@ -54,7 +69,7 @@ pub trait Handler<L: Link> {
         ensures talk { talk self.new ≡ talk self.old }
         ensures handled { (rest : List ℕ) → Fits (talk self.old).limits.frame frame.now
             → Outcome (talk self.old) (world_at (L.tape link.old) (work self.old)
-            (spelling frame.now ++ rest) true (Visits [])) (L.tape link.new) (work self.new) rest true
+            (spelling frame.now ++ rest) Admitted (Visits [])) (L.tape link.new) (work self.new) rest Admitted
             Rest 0 result };
 
     /// The session leaves: what is open is closed. It stays ready.

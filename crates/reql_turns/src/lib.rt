@@ -1,5 +1,5 @@
-//! The turns of a session: it makes the visits of a turn, and then hears its greeting, answers it, has a frame handled, or
-//! receives, until it ends. What a frame asks for, and what a visit finds, is not known here (`Handler`).
+//! The turns of a session: it makes the visits of a turn, and then hears its greeting, answers it or a message
+//! of a login, has a frame handled, or receives, until it ends. What a frame asks for, and what a visit finds, is not known here (`Handler`).
 //!
 //! Contracts see a session as its program has it as a world (`specs/World.antt` of reql_talk), over the worlds of reql_story.
 #![tactic(auto)]
@@ -7,6 +7,8 @@
 mod ears;
 mod greeting;
 mod handler;
+mod login;
+mod receiving;
 mod served;
 mod session;
 mod turn;

@@ -1,7 +1,8 @@
 // A whole session.
-ghost use Rattle.std.specs.Prelude.{◌≡◌, false, [], length, IfSome};
+ghost use Rattle.std.specs.Prelude.{◌≡◌, [], length, IfSome, None};
 ghost use Rattle.reql_outside.specs.Tape.{IsFresh};
 ghost use Rattle.reql_story.specs.Books.{no_books};
+ghost use Rattle.reql_story.specs.Logins.{Waiting};
 ghost use Rattle.reql_story.specs.Session.{Rest};
 ghost use Rattle.reql_talk.specs.World.{IsServed, Serves, world_at};
 ghost use Rattle.reql_turns.specs.Ears.{IsFirst};
@@ -27,6 +28,7 @@ struct Over {
 
 // Serves in at most so many turns, through which what handles frames stays ready.
 fn serve<H: Handler<L>, L: Link>(
+    alloc: Global,
     link: &mut L,
     ears: &mut Ears,
     handler: &mut H,
@@ -41,10 +43,10 @@ fn serve<H: Handler<L>, L: Link>(
     ensures hall { H.hall handler.new ≡ H.hall handler.old }
     ensures talk { H.talk handler.new ≡ H.talk handler.old }
     ensures serves { Serves (H.talk handler.old) (world_at (L.tape link.old) (H.work handler.old) []
-        false Rest) turns (L.tape link.new) (H.work handler.new) result.end result.turns }
+        Waiting Rest) turns (L.tape link.new) (H.work handler.new) result.end result.turns }
 {
     for used in 0..turns {
-        if let Some(end) = turn(link, ears, handler, buf) {
+        if let Some(end) = turn(alloc, link, ears, handler, buf) {
             let turns = used + 1;
             return Over { end, turns };
         }
@@ -60,6 +62,7 @@ fn room(alloc: Global, key: &[u8], limit: u32) -> Option<(Ears, Vec<u8>)>
     ensures key { IfSome result (λ r. r.0.greeter ≡ record { key = key.now; heard = [] }) }
     ensures feeder { IfSome result (λ r. r.0.feeder ≡ record { limit = limit; held = [] }) }
     ensures phase { IfSome result (λ r. r.0.phase ≡ Phase.Waiting) }
+    ensures proving { IfSome result (λ r. r.0.proving ≡ None) }
     ensures room { IfSome result (λ r. length r.1.items ≡ 65536) }
 {
     let buf = vec![in alloc; 0u8; RECEIVED_BYTES].ok()?;
@@ -68,6 +71,7 @@ fn room(alloc: Global, key: &[u8], limit: u32) -> Option<(Ears, Vec<u8>)>
         greeter,
         feeder: Feeder::new(alloc, limit),
         phase: Phase::Waiting,
+        proving: None,
     };
     Some((ears, buf))
 }
@@ -80,7 +84,7 @@ fn converse<H: Handler<L>, L: Link>(alloc: Global, link: &mut L, handler: &mut H
     ensures hall { H.hall handler.new ≡ H.hall handler.old }
     ensures talk { H.talk handler.new ≡ H.talk handler.old }
     ensures serves { Serves (H.talk handler.old) (world_at (L.tape link.old) (H.work handler.old) []
-        false Rest) (H.talk handler.old).limits.turns (L.tape link.new) (H.work handler.new) result.end
+        Waiting Rest) (H.talk handler.old).limits.turns (L.tape link.new) (H.work handler.new) result.end
         result.turns }
 {
     let limits = *handler.limits();
@@ -90,7 +94,7 @@ fn converse<H: Handler<L>, L: Link>(alloc: Global, link: &mut L, handler: &mut H
             turns: 0,
         };
     };
-    serve(link, &mut ears, handler, &mut buf, limits.turns)
+    serve(alloc, link, &mut ears, handler, &mut buf, limits.turns)
 }
 
 /// Serves a session over a link, to its end: what was said and heard, and all that was done at the desk, is explained by the

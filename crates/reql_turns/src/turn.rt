@@ -1,30 +1,32 @@
 // One turn of a session.
-ghost use Rattle.std.specs.Prelude.{◌≡◌, true, [], length};
+ghost use Rattle.std.specs.Prelude.{◌≡◌, [], length};
+ghost use Rattle.reql_story.specs.Logins.{Admitted};
 ghost use Rattle.reql_story.specs.Session.{Rest, Visits};
 ghost use Rattle.reql_talk.specs.World.{Outcome, world_at};
 ghost use Rattle.reql_turns.specs.Ears.{IsHearing, ReceivesMore, TurnFrom};
 
 use crate::ears::{Ears, Phase};
-use crate::greeting::{accept, end_of, hear_more, refuse};
+use crate::greeting::{accept, hear_more, refuse};
 use crate::handler::Handler;
-use reql_hearing::{Received, receive};
-use reql_outside::Link;
+use crate::login::{call, exchange};
+use crate::receiving::receive_more;
+use reql_outside::{Expected, Link};
 use reql_story::End;
 use reql_wire::{Feeder, WireFault};
+use std::alloc::Global;
 
-// Receives once, where no whole frame is held.
-fn receive_more<L: Link>(link: &mut L, feeder: &mut Feeder, buf: &mut [u8]) -> Option<End>
+// Receives once, where no whole frame is held, and tells the link whether one has begun.
+fn receive_frame<L: Link>(link: &mut L, feeder: &mut Feeder, buf: &mut [u8]) -> Option<End>
     requires room { length buf.old ≡ 65536 }
     ensures receives { ReceivesMore (L.tape link.old) (L.tape link.new) feeder.old.held feeder.new.held result }
     ensures limit { feeder.new.limit ≡ feeder.old.limit }
 {
-    match receive(link, feeder, buf) {
-        Received::Idle => None,
-        Received::Piece => None,
-        Received::Lost => Some(End::Memory),
-        Received::Over => Some(end_of(feeder.held())),
-        Received::Failed => Some(End::ReadFault),
+    if feeder.held() == 0 {
+        link.expects(Expected::Frame);
+    } else {
+        link.expects(Expected::Rest);
     }
+    receive_more(link, feeder, buf)
 }
 
 // What a turn does after its visits, where the greeting was answered: a frame is handled where a whole one is held,
@@ -42,12 +44,15 @@ fn go_on<H: Handler<L>, L: Link>(
     ensures talk { H.talk handler.new ≡ H.talk handler.old }
     ensures limit { feeder.new.limit ≡ feeder.old.limit }
     ensures goes { feeder.old.limit ≡ (H.talk handler.old).limits.frame → Outcome (H.talk handler.old)
-        (world_at (L.tape link.old) (H.work handler.old) feeder.old.held true (Visits []))
-        (L.tape link.new) (H.work handler.new) feeder.new.held true Rest 0 result }
+        (world_at (L.tape link.old) (H.work handler.old) feeder.old.held Admitted (Visits []))
+        (L.tape link.new) (H.work handler.new) feeder.new.held Admitted Rest 0 result }
 {
     match feeder.take() {
-        Ok(Some(frame)) => handler.handle(link, &frame),
-        Ok(None) => receive_more(link, feeder, buf),
+        Ok(Some(frame)) => {
+            link.expects(Expected::Frame);
+            handler.handle(link, &frame)
+        }
+        Ok(None) => receive_frame(link, feeder, buf),
         Err(WireFault::TooLong { len }) => Some(End::TooLong { len }),
         Err(WireFault::Memory) => Some(End::Memory),
     }
@@ -55,6 +60,7 @@ fn go_on<H: Handler<L>, L: Link>(
 
 /// One turn. What handles frames stays ready.
 pub(crate) fn turn<H: Handler<L>, L: Link>(
+    alloc: Global,
     link: &mut L,
     ears: &mut Ears,
     handler: &mut H,
@@ -72,6 +78,8 @@ pub(crate) fn turn<H: Handler<L>, L: Link>(
     match ears.phase {
         Phase::Waiting => hear_more::<H, L>(link, ears, buf),
         Phase::Whole => accept::<H, L>(link, ears),
+        Phase::Called => call::<H, L>(link, ears),
+        Phase::Login => exchange(alloc, link, ears, handler, buf),
         Phase::Wrong(fault) => refuse::<H, L>(link, ears, fault),
         Phase::Over => {
             if let Some(end) = handler.visit(link) {

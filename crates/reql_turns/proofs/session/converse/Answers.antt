@@ -1,4 +1,3 @@
-use Rattle.std.proofs.Common.{refl}
 use Rattle.reql_turns.proofs.Frames.{serves_poor}
 use Rattle.reql_turns.proofs.session.converse.Goals as goal
 

@@ -1,6 +1,7 @@
 use Rattle.std.proofs.Common.{refl}
 use Rattle.reql_turns.specs.declared.ears.Phase.TheVariants as phases
 use Rattle.reql_turns.proofs.Frames.{turn_of_greeting, turn_ended, turn_went, still_short}
+use Rattle.reql_turns.proofs.Exchanging.{turn_of_login}
 use Rattle.reql_turns.proofs.turn.turn.Goals as goal
 
 pub hear_more-requires-clause-short : goal.hear_more-requires-clause-short
@@ -14,6 +15,12 @@ returns-in-Waiting-clause-turned g c = turn_of_greeting (g.H.Handler.talk c.args
 
 pub returns-in-Whole-clause-turned : goal.returns-in-Whole-clause-turned
 returns-in-Whole-clause-turned g c = turn_of_greeting (g.H.Handler.talk c.args.handler.now) phases.Whole _ _ _ c.args.ears.now _ c.accept.result tt c.in-Whole.is (c.accept.ensures (g.H.Handler.talk c.args.handler.now))
+
+pub returns-in-Called-clause-turned : goal.returns-in-Called-clause-turned
+returns-in-Called-clause-turned g c = turn_of_greeting (g.H.Handler.talk c.args.handler.now) phases.Called _ _ _ c.args.ears.now _ c.call.result tt c.in-Called.is (c.call.ensures (g.H.Handler.talk c.args.handler.now))
+
+pub returns-in-Login-clause-turned : goal.returns-in-Login-clause-turned
+returns-in-Login-clause-turned g c = turn_of_login (g.H.Handler.talk c.args.handler.now) _ _ _ _ c.args.ears.now _ c.exchange.result c.in-Login.is c.exchange.ensures.exchanged
 
 pub returns-in-Wrong-clause-turned : goal.returns-in-Wrong-clause-turned
 returns-in-Wrong-clause-turned g c = turn_of_greeting (g.H.Handler.talk c.args.handler.now) (phases.Wrong c.in-Wrong.fault) _ _ _ c.args.ears.now _ c.refuse.result tt c.in-Wrong.is (c.refuse.ensures (g.H.Handler.talk c.args.handler.now))

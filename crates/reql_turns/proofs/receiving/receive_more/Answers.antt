@@ -1,7 +1,6 @@
 use Rattle.std.proofs.Common.{inl, inr, ap, ◌∙◌, length}
-use Rattle.reql_hearing.specs.Hearing.{Came}
 use Rattle.reql_turns.proofs.Frames.{over_received, whole_room, within}
-use Rattle.reql_turns.proofs.turn.receive_more.Goals as goal
+use Rattle.reql_turns.proofs.receiving.receive_more.Goals as goal
 
 pub returns-in-Idle-clause-receives : goal.returns-in-Idle-clause-receives
 returns-in-Idle-clause-receives g c = inl c.in-Idle.ensures.receives
