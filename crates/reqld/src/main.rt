@@ -19,9 +19,8 @@ use reql_net::TcpNet;
 use reql_outside::{OsClock, OsDice, StdLink, StdSink};
 use reql_run::{listen, run};
 use reql_words::{Command, Refusal, command_of, with_password};
-use std::env;
-use std::io;
 use std::process::ExitCode;
+use std::{env, io};
 
 fn words_of(rt: &HostRuntime) -> io::Result<Vec<String>> {
     let mut words = Vec::new(rt.alloc());
@@ -31,16 +30,82 @@ fn words_of(rt: &HostRuntime) -> io::Result<Vec<String>> {
     Ok(words)
 }
 
+// The words in which a password that stands in a file is told, where they name one, or why there is none.
+fn told_words(rt: &HostRuntime, words: &[String]) -> Result<Option<Vec<String>>, ExitCode> {
+    let Command::PasswordFile { path } = command_of(words) else {
+        return Ok(None);
+    };
+    let password = match password_in(rt, path) {
+        Ok(password) => password,
+        Err(why) => return Err(no_password(rt, path, why)),
+    };
+    let Ok(words) = with_password(rt.alloc(), words, &password) else {
+        return Err(out_of_memory(rt));
+    };
+    if let Command::Refused(Refusal::BadPassword) = command_of(&words) {
+        return Err(no_password(rt, path, Unread::Line));
+    }
+    Ok(Some(words))
+}
+
+// The net of a server that listens, with this line first where anything is said of its clients.
+fn net_of(rt: HostRuntime, opening: io::Result<Option<String>>) -> Result<TcpNet, ExitCode> {
+    let Ok(opening) = opening else {
+        return Err(out_of_memory(&rt));
+    };
+    match TcpNet::new(rt, opening) {
+        Ok(net) => Ok(net),
+        Err(error) => Err(unopened(&rt, error.kind())),
+    }
+}
+
 fn main(rt: HostRuntime) -> ExitCode {
-    let words = match words_of(&rt) {
+    let alloc = rt.alloc();
+    let said = match words_of(&rt) {
         Ok(words) => words,
         Err(error) => return unread(&rt, error.kind()),
+    };
+    let words = match told_words(&rt, &said) {
+        Ok(Some(words)) => words,
+        Ok(None) => said,
+        Err(status) => return status,
     };
     match command_of(&words) {
         Command::Help => printed(print_help(&rt)),
         Command::Version => printed(println!(rt; "{VERSION}")),
-        Command::PasswordFile { path } => from_file(rt, &words, path),
-        command => obey(rt, &words, command),
+        Command::Refused(refusal) => complain(&rt, refusal),
+        Command::Listen {
+            port,
+            workers,
+            key,
+            password,
+            quiet,
+            tables,
+            ..
+        } => {
+            let opening = if quiet {
+                Ok(None)
+            } else {
+                opening_line(alloc, port, workers, key, password, tables.as_slice())
+            };
+            let mut net = match net_of(rt, opening) {
+                Ok(net) => net,
+                Err(status) => return status,
+            };
+            let outcome = listen(&rt, alloc, &words, &mut net);
+            told(&rt, port, outcome.status, outcome.ended.is_ok())
+        }
+        Command::Load { .. } => {
+            let loaded = load(&rt, alloc, &words, &mut StdSink::new(rt));
+            unprinted(&rt, loaded.status)
+        }
+        Command::Stdio { .. } => {
+            let (dice, clock) = (OsDice::new(rt), OsClock::new(rt));
+            let outcome = run(&rt, alloc, &words, StdLink::new(rt), dice, clock);
+            ExitCode::from(outcome.status)
+        }
+        // a password that stands in a file was told above
+        Command::PasswordFile { .. } => ExitCode::from(2),
     }
 }
 
@@ -49,71 +114,4 @@ fn printed(outcome: io::Result<()>) -> ExitCode {
         Ok(()) => ExitCode::from(0),
         Err(_) => ExitCode::from(5),
     }
-}
-
-// Does what words ask for whose password stands in a file.
-fn from_file(rt: HostRuntime, words: &[String], path: &str) -> ExitCode {
-    let password = match password_in(&rt, path) {
-        Ok(password) => password,
-        Err(why) => return no_password(&rt, path, why),
-    };
-    let Ok(words) = with_password(rt.alloc(), words, &password) else {
-        return out_of_memory(&rt);
-    };
-    match command_of(&words) {
-        Command::Refused(Refusal::BadPassword) => no_password(&rt, path, Unread::Line),
-        command => obey(rt, &words, command),
-    }
-}
-
-// Serves what the words ask for.
-fn obey(rt: HostRuntime, words: &[String], command: Command<'_>) -> ExitCode {
-    match command {
-        Command::Listen {
-            port,
-            workers,
-            sessions: _,
-            key,
-            password,
-            quiet,
-            tables,
-        } => {
-            if quiet {
-                return listening(rt, words, port, None);
-            }
-            match opening_line(
-                rt.alloc(),
-                port,
-                workers,
-                key,
-                password,
-                tables.as_slice(),
-            ) {
-                Ok(line) => listening(rt, words, port, Some(line)),
-                Err(_) => out_of_memory(&rt),
-            }
-        }
-        Command::Stdio { .. } => {
-            let (dice, clock) = (OsDice::new(rt), OsClock::new(rt));
-            let outcome = run(&rt, rt.alloc(), words, StdLink::new(rt), dice, clock);
-            ExitCode::from(outcome.status)
-        }
-        Command::Load { .. } => {
-            let loaded = load(&rt, rt.alloc(), words, &mut StdSink::new(rt));
-            unprinted(&rt, loaded.status)
-        }
-        Command::Refused(refusal) => complain(&rt, refusal),
-        // what is said of the program, and what stands in a file, is asked for before
-        Command::Help | Command::Version | Command::PasswordFile { .. } => ExitCode::from(2),
-    }
-}
-
-// Serves clients of a port, with this line first where anything is said of them.
-fn listening(rt: HostRuntime, words: &[String], port: u16, opening: Option<String>) -> ExitCode {
-    let mut net = match TcpNet::new(rt, opening) {
-        Ok(net) => net,
-        Err(error) => return unopened(&rt, error.kind()),
-    };
-    let outcome = listen(&rt, rt.alloc(), words, &mut net);
-    told(&rt, port, outcome.status, outcome.ended.is_ok())
 }

@@ -21,10 +21,14 @@ fn put_tables(text: &mut String, tables: &[(&str, &str)]) -> io::Result<()> {
 // Who may connect.
 fn who(has_key: bool, has_password: bool) -> &'static str {
     match (has_key, has_password) {
-        (false, false) => "everyone on this machine may connect: there is no --password and no --key",
-        (false, true) => "who logs in has to know the password, but there is no --key: everyone on this machine may connect by V0_4",
-        (true, false) => "who greets by V0_4 has to bring the key, but there is no --password: everyone on this machine may log in by V1_0",
-        (true, true) => "who logs in has to know the password, and who greets by V0_4 to bring the key",
+        (false, false) =>
+            "everyone on this machine may connect: there is no --password and no --key",
+        (false, true) =>
+            "who logs in has to know the password, but there is no --key: everyone on this machine may connect by V0_4",
+        (true, false) =>
+            "who greets by V0_4 has to bring the key, but there is no --password: everyone on this machine may log in by V1_0",
+        (true, true) =>
+            "who logs in has to know the password, and who greets by V0_4 to bring the key",
     }
 }
 
@@ -36,12 +40,12 @@ pub fn opening_line(
     key: &str,
     password: &str,
     tables: &[(&str, &str)],
-) -> io::Result<String> {
+) -> io::Result<Option<String>> {
     let mut text = format!(in alloc;
         "reqld: listening on 127.0.0.1:{port}, serving {workers} clients at once (--workers); tables: "
     )?;
     put_tables(&mut text, tables)?;
     text.push_str("; ")?;
     text.push_str(who(!key.is_empty(), !password.is_empty()))?;
-    Ok(text)
+    Ok(Some(text))
 }

@@ -34,7 +34,10 @@ fn reason(kind: ErrorKind) -> Unread {
 fn first_line(bytes: &[u8]) -> &[u8]
     ensures { result.now ≡ before_first is_line_end bytes.now }
 {
-    match bytes.iter().position(|byte| *byte == b'\n' || *byte == b'\r') {
+    match bytes
+        .iter()
+        .position(|byte| *byte == b'\n' || *byte == b'\r')
+    {
         Some(end) => &bytes[..end],
         None => bytes,
     }
