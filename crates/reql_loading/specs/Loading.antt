@@ -17,6 +17,7 @@ use Rattle.reql_law.specs.declared.command.Order.{Order}
 use Rattle.reql_tail.specs.Kept.{Kept}
 use Rattle.reql_core.specs.declared.moment.Moment.{Moment}
 use Rattle.reql_story.specs.declared.end.End.TheVariants as ends
+use Rattle.reql_told.specs.Told.{keys_by}
 use Rattle.reql_serve.specs.Many.{AtEnd}
 use Rattle.reql_serve.specs.Working.{Outside}
 use Rattle.reql_serve.specs.declared.worker.Member.{Member}
@@ -36,7 +37,7 @@ pub record IsServed {E NE : Type 0} (state : E → State) (known : NE → Catalo
   pub five : length posts ≡ 5
   pub fresh : All IsFreshPost posts
   pub sound : All IsSoundPost posts
-  pub served : AreServed state known tape_of [] tables posts 5 workers hall
+  pub served : AreServed state known tape_of (keys_by [] []) tables posts 5 workers hall
 
 -- some bytes stand among others
 abbrev pub has_part : List ℕ → List ℕ → Bool

@@ -44,7 +44,7 @@ where
 {
     let posts = posts(alloc, seed, size)?;
     let sessions = SESSIONS as u64;
-    let many = serve_posts(rt, alloc, "", &[("test", "load")], posts, sessions, 4)?;
+    let many = serve_posts(rt, alloc, "", "", &[("test", "load")], posts, sessions, 4)?;
     Ok(many)
 }
 

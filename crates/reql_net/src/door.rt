@@ -1,4 +1,5 @@
 // Doors: where links to clients come from.
+ghost use Rattle.std.specs.Prelude.{◌≡◌};
 ghost use Rattle.reql_net.specs.Doors.{DoorTold, Opens};
 
 use reql_outside::Link;
@@ -14,6 +15,44 @@ pub enum Accept<L> {
     Failed,
 }
 
+/// How the session of a client ended, as its door is told.
+#[derive(Clone, Copy, Debug, PartialEq, Eq)]
+pub enum Parting {
+    /// Its input ended, and all of it was handled.
+    Closed,
+    /// Its input ended within a greeting or a request.
+    Cut,
+    /// It greeted in a version or a protocol that isn't spoken.
+    Version,
+    /// It greeted with another key.
+    Key,
+    /// It didn't log in.
+    Login,
+    /// It announced a request above the limit.
+    TooLong,
+    /// A receive failed.
+    ReadFault,
+    /// A send failed.
+    WriteFault,
+    /// All turns of a session were used up.
+    Worn,
+    /// Memory was wanted.
+    Memory,
+}
+
+/// Why a worker takes no more links from its door.
+#[derive(Clone, Copy, Debug, PartialEq, Eq)]
+pub enum Rest {
+    /// It has served as many as it was to.
+    Done,
+    /// No client comes any more.
+    Over,
+    /// The door failed.
+    Failed,
+    /// Memory was wanted for one more session.
+    Memory,
+}
+
 /// Where a worker's links come from, one after another.
 ///
 /// A count that stands at 2^64 - 1 counts as risen: it stays there.
@@ -27,4 +66,14 @@ pub trait Door {
     /// Waits for the next client.
     fn accept(&mut self) -> Accept<Self::Link>
         ensures { Opens Self.Link.tape (told self.old) (told self.new) result };
+
+    /// Tells the door how the session of its last link ended, and what is left of that.
+    fn leaves(&mut self, _record: &<Self::Link as Link>::Record, _how: Parting)
+        ensures still { told self.new ≡ told self.old }
+    {}
+
+    /// Tells the door that its worker takes no more links.
+    fn rests(&mut self, _why: Rest)
+        ensures still { told self.new ≡ told self.old }
+    {}
 }

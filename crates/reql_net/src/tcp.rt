@@ -27,6 +27,8 @@ pub struct TcpRecord {
     pub idles: u64,
     /// Whether the input ended.
     pub over: bool,
+    /// Whether it ended because the client took too long.
+    pub late: bool,
 }
 
 /// A link over a TCP socket. It tells no bytes.
@@ -112,6 +114,7 @@ impl TcpLink {
                 faults_out: 0,
                 idles: 0,
                 over: false,
+                late: false,
             },
         })
     }
@@ -144,8 +147,12 @@ impl Link for TcpLink {
         ensures fits { RecvFits result (length buf.old) }
         ensures told { Receives self.old self.new buf.new result }
     {
-        if self.counts.over || self.pace.is_over(&self.rt) {
+        if self.counts.over {
+            return Recv::End;
+        }
+        if self.pace.is_over(&self.rt) {
             self.counts.over = true;
+            self.counts.late = true;
             return Recv::End;
         }
         let came = if self.hears() {

@@ -7,10 +7,11 @@ ghost use Rattle.reql_net.specs.Nets.{IsUntouched, unasked};
 
 use crate::asked::Asked;
 use crate::bell::Bell;
-use crate::door::{Accept, Door};
+use crate::crowd::Crowd;
+use crate::door::{Accept, Door, Parting, Rest};
 use crate::ear::Ear;
 use crate::net::{Net, NetFault, Post};
-use crate::tcp::TcpLink;
+use crate::tcp::{TcpLink, TcpRecord};
 use reql_outside::{OsClock, OsDice};
 use std::alloc::Global;
 use std::io::{self, ErrorKind};
@@ -27,6 +28,9 @@ pub struct TcpDoor {
     rt: HostRuntime,
     listener: TcpListener,
     bell: Arc<Bell, Global>,
+    crowd: Arc<Crowd, Global>,
+    // the client of its last link, until its session ends
+    client: Option<SocketAddr>,
     gave: u64,
     broken: bool,
     faults: u64,
@@ -71,13 +75,13 @@ impl TcpDoor {
 
     // The next client that can be set up. One that left again, or for which there is no descriptor or
     // memory now, is passed over.
-    fn next_link(&self) -> Option<TcpLink>
-        ensures { IfSome result (λ l. IsFresh l) }
+    fn next_link(&self) -> Option<(TcpLink, SocketAddr)>
+        ensures { IfSome result (λ l. IsFresh l.0) }
     {
         for _ in 0..u64::MAX {
             match self.listener.accept() {
-                Ok((stream, _)) => match self.link(stream) {
-                    Ok(link) => return Some(link),
+                Ok((stream, client)) => match self.link(stream) {
+                    Ok(link) => return Some((link, client)),
                     Err(_) => self.rest(),
                 },
                 Err(e) if is_final(&e) => return None,
@@ -100,7 +104,9 @@ impl Door for TcpDoor {
 
     fn accept(&mut self) -> Accept<TcpLink> {
         match self.next_link() {
-            Some(link) => {
+            Some((link, client)) => {
+                self.crowd.enters(&self.rt);
+                self.client = Some(client);
                 self.gave = self.gave.saturating_add(1);
                 Accept::Link(link)
             }
@@ -111,14 +117,33 @@ impl Door for TcpDoor {
             }
         }
     }
+
+    fn leaves(&mut self, kept: &TcpRecord, how: Parting)
+        ensures still { self.new ≡ self.old }
+    {
+        if let Some(client) = self.client.take() {
+            self.crowd.leaves(&self.rt, client, how, kept.late);
+        }
+    }
+
+    fn rests(&mut self, why: Rest)
+        ensures still { self.new ≡ self.old }
+    {
+        self.crowd.shrinks(&self.rt, why);
+    }
 }
 
 /// A net over TCP on the address 127.0.0.1. The doors of one call share a listener, and all links of
 /// the net one bell. It isn't sound, as the dice and the clock of the system aren't.
+///
+/// It may tell what comes of its clients: a line on standard error for each that is refused or ends by
+/// a fault, for each worker that ends, and at most once a minute that all workers are taken.
 #[derive(Drop)]
 pub struct TcpNet {
     rt: HostRuntime,
     bell: Arc<Bell, Global>,
+    // what is said when clients can connect, where the net tells anything
+    opening: Option<String>,
     told: Asked,
 }
 
@@ -132,8 +157,8 @@ impl Model for TcpNet {
 }
 
 impl TcpNet {
-    /// The net of this machine.
-    pub fn new(rt: HostRuntime) -> io::Result<TcpNet>
+    /// The net of this machine. It tells of its clients where it has a line to begin with.
+    pub fn new(rt: HostRuntime, opening: Option<String>) -> io::Result<TcpNet>
         ensures { IfOk result (λ n. n ≡ unasked false) }
     {
         let alloc = rt.alloc();
@@ -141,21 +166,31 @@ impl TcpNet {
         Ok(TcpNet {
             rt,
             bell,
+            opening,
             told: Asked::new(),
         })
     }
 
-    fn door(&self, listener: &TcpListener) -> io::Result<TcpDoor>
+    fn door(&self, listener: &TcpListener, crowd: &Arc<Crowd, Global>) -> io::Result<TcpDoor>
         ensures { IfOk result (λ d. d ≡ untouched) }
     {
         Ok(TcpDoor {
             rt: self.rt,
             listener: listener.try_clone()?,
             bell: Arc::try_clone(&self.bell)?,
+            crowd: Arc::try_clone(crowd)?,
+            client: None,
             gave: 0,
             broken: false,
             faults: 0,
         })
+    }
+
+    // Clients can connect from now on.
+    fn tell(&self) {
+        if let Some(line) = &self.opening {
+            let _ = eprintln!(self.rt; "{line}");
+        }
     }
 
     fn posts(
@@ -169,9 +204,10 @@ impl TcpNet {
     {
         let address = SocketAddr::V4(SocketAddrV4::new(Ipv4Addr::LOCALHOST, port));
         let listener = TcpListener::bind(&self.rt, address)?;
+        let crowd = Arc::new(alloc, Crowd::new(&self.rt, self.opening.is_some(), n)?)?;
         let mut posts = Vec::new(alloc);
         for _ in 0..n {
-            let door = self.door(&listener)?;
+            let door = self.door(&listener, &crowd)?;
             posts.push(Post {
                 door,
                 dice: OsDice::new(self.rt),
@@ -201,6 +237,7 @@ impl Net for TcpNet {
         match self.posts(alloc, port, n) {
             Ok(posts) => {
                 self.told.give(n);
+                self.tell();
                 Ok(posts)
             }
             Err(e) if e.kind() == ErrorKind::OutOfMemory => Err(NetFault::Memory),

@@ -15,7 +15,7 @@ const TABLE: u32 = 7;
 
 // The door of a net over TCP that has one.
 fn one_door(rt: HostRuntime) -> Result<TcpDoor, Fail> {
-    let mut net = TcpNet::new(rt)?;
+    let mut net = TcpNet::new(rt, None)?;
     match net.doors(rt.alloc(), 0, 1) {
         Ok(mut posts) => match posts.pop() {
             Some(

@@ -1,5 +1,5 @@
 -- Lists of posts, and of workers.
-use Rattle.std.proofs.Common.{◌≡◌, ℕ, List, [], ◌∷◌, length, map, refl, sym, subst, ap, suc, inl, inr}
+use Rattle.std.proofs.Common.{◌≡◌, ℕ, Bool, List, [], ◌∷◌, length, map, refl, sym, subst, ap, suc, inl, inr}
 use Rattle.reql_net.specs.Nets.{NetTold}
 use Rattle.reql_net.specs.declared.net.NetFault.{NetFault}
 use Rattle.reql_net.specs.declared.net.NetFault.TheVariants as fault
@@ -15,7 +15,7 @@ map_twice f g [] = refl
 map_twice f g (x ∷ xs) = ap (λ ys. g (f x) ∷ ys) (map_twice f g xs)
 
 -- the status where no session was served is that of its fault
-pub unheard : (asked : Asks) (port many sessions : ℕ) (key : List ℕ) (tables : List (List ℕ × List ℕ)) (old new : NetTold) (status back : ℕ) (f : NetFault)
-    → asked ≡ Listen port many sessions key tables → status ≡ status_of_fault f → ComesToNone old new port many back f → Unheard asked old new status back
-unheard asked port many sessions key tables old new status back fault.Failed is s c = subst (λ a. Unheard a old new status back) (sym is) (inl (s, c.0, c.1))
-unheard asked port many sessions key tables old new status back fault.Memory is s c = subst (λ a. Unheard a old new status back) (sym is) (inr (s, c))
+pub unheard : (asked : Asks) (port many sessions : ℕ) (key password : List ℕ) (quiet : Bool) (tables : List (List ℕ × List ℕ)) (old new : NetTold) (status back : ℕ) (f : NetFault)
+    → asked ≡ Listen port many sessions key password quiet tables → status ≡ status_of_fault f → ComesToNone old new port many back f → Unheard asked old new status back
+unheard asked port many sessions key password quiet tables old new status back fault.Failed is s c = subst (λ a. Unheard a old new status back) (sym is) (inl (s, c.0, c.1))
+unheard asked port many sessions key password quiet tables old new status back fault.Memory is s c = subst (λ a. Unheard a old new status back) (sym is) (inr (s, c))

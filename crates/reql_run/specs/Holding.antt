@@ -23,11 +23,11 @@ module _ {PL : Type 0} (k : Talk PL) {share : DeskShare} {life : Life} (e : Expl
   IsLate = life.end ≡ ends.Worn → k.limits.turns < ((length life.given + length life.given) + life.idles) + 2
 
   -- What was given, with more to come only where the input wasn't over, is a valid input: nothing, or a greeting that is accepted
-  -- and then frames within the limit alone. Then, where no call of the link failed, and twice what was given with the idle receives
+  -- or a whole login, and then frames within the limit alone. Then, where no call of the link failed, and twice what was given with the idle receives
   -- and two more is at most the limit of turns, every frame was handled, in order, and the session closed, as its input was over,
   -- unless memory was wanted.
   abbrev pub ClosesWhole : Tape → Type 0
-  ClosesWhole tape = (more : List ℕ) (frames : List Frame) → IsValid k (life.given ++ more) frames → (tape.over ≡ true → more ≡ [])
+  ClosesWhole tape = (more : List ℕ) (frames : List Frame) → IsValid k life.rolls (life.given ++ more) frames → (tape.over ≡ true → more ≡ [])
       → tape.faults_in ≡ 0 → tape.faults_out ≡ 0 → ((length life.given + length life.given) + tape.idles) + 2 ≤ k.limits.turns
       → ((life.end ≡ ends.Closed) × (begun e.events ≡ frames) × (tape.over ≡ true)) ⊎ (life.end ≡ ends.Memory)
 

@@ -1,5 +1,5 @@
 -- What the server promises of the sessions that come to a port, by the words and the net that it is handed.
-use Rattle.std.specs.Prelude.{◌≡◌, ◌⊎◌, ℕ, true, List, [], ◌∷◌, length, map, replicate, All, cond, nat_lt}
+use Rattle.std.specs.Prelude.{◌≡◌, ◌⊎◌, ℕ, Bool, true, List, [], ◌∷◌, length, map, replicate, All, cond, nat_lt}
 use Rattle.reql_outside.specs.Tape.{Tape}
 use Rattle.reql_net.specs.Doors.{untouched}
 use Rattle.reql_net.specs.Nets as nets
@@ -13,7 +13,8 @@ use Rattle.reql_catalog.specs.declared.command.CatCmd.{CatCmd}
 use Rattle.reql_law.specs.Limits.{usual_limits}
 use Rattle.reql_law.specs.Machine.{State, unused}
 use Rattle.reql_law.specs.declared.command.Order.{Order}
-use Rattle.reql_told.specs.Told.{talk}
+use Rattle.reql_story.specs.Tasks.{Keys}
+use Rattle.reql_told.specs.Told.{keys_by, talk}
 use Rattle.reql_serve.specs.Working.{Outside}
 use Rattle.reql_serve.specs.Many.{AtEnd, ServesMany}
 use Rattle.reql_serve.specs.declared.worker.WorkState.{WorkState}
@@ -50,20 +51,20 @@ abbrev pub IsSoundPost : Outside → Type 0
 IsSoundPost post = (post.dice.sound ≡ true) × (post.clock.sound ≡ true)
 
 -- So many sessions of these posts, told of plans in ReQL, at a hall that knows these tables and whose engines are unused, of the usual limits.
-abbrev pub AreServed : {E NE R : Type 0} → (E → State) → (NE → Catalog) → (R → Tape) → List ℕ → List (List ℕ × List ℕ) → List Outside → ℕ → List (AtEnd R) → Closed E Order State NE CatCmd Catalog → Type 0
-AreServed state known tape key tables posts sessions workers hall =
-    ServesMany (talk key usual_limits) (unused 0 0) tape state known (opening tables usual_limits.slots)
+abbrev pub AreServed : {E NE R : Type 0} → (E → State) → (NE → Catalog) → (R → Tape) → Keys → List (List ℕ × List ℕ) → List Outside → ℕ → List (AtEnd R) → Closed E Order State NE CatCmd Catalog → Type 0
+AreServed state known tape keys tables posts sessions workers hall =
+    ServesMany (talk keys usual_limits) (unused 0 0) tape state known (opening tables usual_limits.slots)
     (replicate usual_limits.slots (unused usual_limits.feeds usual_limits.tail)) posts sessions workers hall
 
 -- The sessions that came to a port of a net. It is asked once, for this port and for so many posts, and gives them; nobody has used
 -- them, and their clocks and dice never fail where it is sound. Each of them has a worker.
-pub record ComesTo {E NE R : Type 0} (state : E → State) (known : NE → Catalog) (tape : R → Tape) (port many sessions : ℕ) (key : List ℕ) (tables : List (List ℕ × List ℕ)) (old new : NetTold) (workers : List (AtEnd R)) (hall : Closed E Order State NE CatCmd Catalog) : Type 0 where
+pub record ComesTo {E NE R : Type 0} (state : E → State) (known : NE → Catalog) (tape : R → Tape) (port many sessions : ℕ) (keys : Keys) (tables : List (List ℕ × List ℕ)) (old new : NetTold) (workers : List (AtEnd R)) (hall : Closed E Order State NE CatCmd Catalog) : Type 0 where
   pub net : new ≡ nets.asks old port many many 0
   pub posts : List Outside
   pub one_each : length posts ≡ many
   pub fresh : All IsFreshPost posts
   pub sound : old.sound ≡ true → All IsSoundPost posts
-  pub served : AreServed state known tape key tables posts sessions workers hall
+  pub served : AreServed state known tape keys tables posts sessions workers hall
 
 -- The words ask for a port, for so many workers and for so many sessions in all, which came; the status is the greatest of the
 -- workers'.
@@ -72,9 +73,11 @@ pub record Listens {E NE R : Type 0} (state : E → State) (known : NE → Catal
   pub many : ℕ
   pub sessions : ℕ
   pub key : List ℕ
+  pub password : List ℕ
+  pub quiet : Bool
   pub tables : List (List ℕ × List ℕ)
-  pub asks : asked ≡ Listen port many sessions key tables
-  pub came : ComesTo state known tape port many sessions key tables old new workers hall
+  pub asks : asked ≡ Listen port many sessions key password quiet tables
+  pub came : ComesTo state known tape port many sessions (keys_by key password) tables old new workers hall
   pub ends : status ≡ status_of_workers (map (λ (w : AtEnd R). w.state) workers)
 
 -- No session of a port is told of, and so many posts are handed back: its net is asked once, and fails, or memory is wanted, and all
@@ -86,6 +89,6 @@ ComesToNone old new port many back fault.Memory = new ≡ nets.asks old port man
 -- No session is told of, and so many posts are handed back: the words ask for no port, and the net isn't asked; or it is asked once,
 -- and fails, or memory is wanted, and all that it gave are handed back.
 abbrev pub Unheard : Asks → NetTold → NetTold → ℕ → ℕ → Type 0
-Unheard (Listen port many sessions key tables) old new status back =
+Unheard (Listen port many sessions key password quiet tables) old new status back =
     ((status ≡ 3) × (back ≡ 0) × (new ≡ nets.asks old port many 0 1)) ⊎ ((status ≡ 8) × (new ≡ nets.asks old port many back 0))
 Unheard asked old new status back = (status ≡ 2) × (back ≡ 0) × (new ≡ old)

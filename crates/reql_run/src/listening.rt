@@ -92,12 +92,13 @@ fn status_of_workers<G: Door>(workers: &[Left<G>]) -> u8
     status
 }
 
-/// Serves the sessions of these posts, up to so many, to who has the key, with these tables from the start. So many of the first
+/// Serves the sessions of these posts, up to so many, to who has the key or the password, with these tables from the start. So many of the first
 /// posts begin when the others have ended. An `Err` hands the posts back as they came.
 pub fn serve_posts<R, G, D, T>(
     rt: &R,
     alloc: Global,
     key: &str,
+    password: &str,
     tables: &[(&str, &str)],
     posts: Vec<Post<G, D, T>>,
     sessions: u64,
@@ -110,12 +111,12 @@ where
     <G::Link as Link>::Record: Drop + Send,
     D: Dice + Drop + Send,
     T: Clock + Drop + Send,
-    ensures served { IfOk result (λ many. AreServed (state_of held_in) (λ n. n) G.Link.kept key.now (map named tables.now)
+    ensures served { IfOk result (λ many. AreServed (state_of held_in) (λ n. n) G.Link.kept (keys_by key.now password.now) (map named tables.now)
         (map (λ p. outside (T.told p.clock) (D.told p.dice) (G.told p.door)) posts.items) sessions
         (map (λ w. at_end (G.told w.door) w.ended.items w.left w.state) many.workers.items) many.hall) }
     ensures back { IfErr result (λ refused. refused.back ≡ posts) }
 {
-    let Ok(start) = begin(alloc, key, tables) else {
+    let Ok(start) = begin(alloc, key, password, tables) else {
         return Err(Refused { back: posts });
     };
     let Start {
@@ -132,6 +133,7 @@ fn serve_port<R, N>(
     rt: &R,
     alloc: Global,
     key: &str,
+    password: &str,
     tables: &[(&str, &str)],
     port: u16,
     workers: u32,
@@ -147,7 +149,7 @@ where
     N::Dice: Drop + Send,
     N::Clock: Drop + Send,
     ensures came { IfOk result (λ many. ComesTo (state_of held_in) (λ n. n) N.Door.Link.kept port workers sessions
-        key.now (map named tables.now) (N.told net.old) (N.told net.new)
+        (keys_by key.now password.now) (map named tables.now) (N.told net.old) (N.told net.new)
         (map (λ w. at_end (N.Door.told w.door) w.ended.items w.left w.state) many.workers.items) many.hall) }
     ensures none { IfErr result (λ none. ComesToNone (N.told net.old) (N.told net.new) port workers (length none.posts.items) none.fault) }
     ensures untouched { IfErr result (λ none. All (IsUntouched N.Door.told) none.posts.items) }
@@ -159,7 +161,7 @@ where
             return Err(NoneServed { fault, posts });
         }
     };
-    match serve_posts(rt, alloc, key, tables, posts, sessions, 0) {
+    match serve_posts(rt, alloc, key, password, tables, posts, sessions, 0) {
         Ok(many) => Ok(many),
         Err(refused) => Err(NoneServed {
             fault: NetFault::Memory,
@@ -169,8 +171,8 @@ where
 }
 
 /// Serves clients that connect to a port of the net, with what the words ask for:
-/// `listen --port P [--workers W] [--sessions S] [--key K] [--table DB.NAME]..`, its options in any
-/// order. W clients are served at once, each by a worker of its own, and S in all.
+/// `listen [--port P] [--workers W] [--sessions S] [--quiet] [--key K] [--password P] [--table DB.NAME]..`,
+/// its options in any order. W clients are served at once, each by a worker of its own, and S in all.
 ///
 /// With other words the status is 2, and the net isn't asked. Where memory is wanted before a client is
 /// served, the posts that the net gave come back, all of them and with untouched doors, so that nobody
@@ -268,6 +270,8 @@ where
         workers,
         sessions,
         key,
+        password,
+        quiet: _,
         tables,
     } = command_of(words)
     else {
@@ -280,6 +284,7 @@ where
         rt,
         alloc,
         key,
+        password,
         tables.as_slice(),
         port,
         workers,

@@ -50,14 +50,20 @@ pub(crate) fn engines<F: Opening>(
     Ok(all)
 }
 
-/// The names with these tables, an engine that nobody has used for each slot, and plans for who has the key, with the usual
-/// limits.
-pub(crate) fn begin(alloc: Global, key: &str, tables: &[(&str, &str)]) -> Result<Start, Memory>
+/// The names with these tables, an engine that nobody has used for each slot, and plans for who has the key or the
+/// password, with the usual limits.
+pub(crate) fn begin(
+    alloc: Global,
+    key: &str,
+    password: &str,
+    tables: &[(&str, &str)],
+) -> Result<Start, Memory>
     ensures names { IfOk result (λ s. s.names ≡ opening (map named tables.now) usual_limits.slots) }
     ensures names_unused { IfOk result (λ s. catalogue_machine.place s.names ≡ 0) }
     ensures engines { IfOk result (λ s. map (state_of held_in) s.engines.items
         ≡ replicate usual_limits.slots (unused usual_limits.feeds usual_limits.tail)) }
     ensures key { IfOk result (λ s. s.plans.key.items ≡ key.now) }
+    ensures password { IfOk result (λ s. s.plans.password.items ≡ password.now) }
     ensures limits { IfOk result (λ s. s.plans.limits ≡ usual_limits) }
 {
     let limits = Limits::usual();
@@ -65,9 +71,14 @@ pub(crate) fn begin(alloc: Global, key: &str, tables: &[(&str, &str)]) -> Result
     let names = Catalogue::new(alloc, &tables, limits.slots)?;
     let engines = engines(alloc, &limits)?;
     let key = key.as_bytes().to_vec(alloc)?;
+    let password = password.as_bytes().to_vec(alloc)?;
     Ok(Start {
         names,
         engines,
-        plans: QueryPlans { key, limits },
+        plans: QueryPlans {
+            key,
+            password,
+            limits,
+        },
     })
 }

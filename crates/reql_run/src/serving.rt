@@ -7,6 +7,7 @@ ghost use Rattle.reql_open_feed.specs.Open.{held_in};
 ghost use Rattle.reql_law.specs.Laws.{DocsAtStamp, StampCounts, FeedsComeAndGo, UnsubscribesAreTold, ShutWhereDropped, LooksTellTheTable};
 ghost use Rattle.reql_law.specs.Terms.{PointsShowTheirTerms, RangesShowTheirTerms, LimitsShowTheirTerms};
 ghost use Rattle.reql_plan_law.specs.Looks.{ReadSlotsRise};
+ghost use Rattle.reql_told.specs.Told.{keys_by};
 ghost use Rattle.reql_told.specs.Laws.{AllInOrder, AllFramesHandled, AllWornLate, AllFirstFailed, AllAreAnswered, AllWaitForNothing, AllValidClose, AllFeedsHold, AllSkipsAreSent, AllFeedsAreRead, AllFeedsAreTheirs, AllFeedsAreOpened, AllFeedsBegin, AllFeedsOpen, AllFeedsEnd, AllContinuesAreAnswered, AllNothingKeptBack, AllOfFeedsIsSent, AllFeedsAreTold, AllBatchesAreOfFeeds, AllBatchesAreFull, AllTakesAreOfFeeds, AllIsSaid, AllFeedsAreAskedInTurn, AllRunNoOtherFeeds, AllFeedsEndWithTheirOwn, AllFaultyFeedsAreRefused, AllCrowdedFeedsAreRefused, AllNextFeedsAreRun, AllOpenFeedsAreTold, AllDeniedFeedsAreClosed, AllArmsAreApart, AllTakesArePlaced, AllSubscribesArePlaced, BatchesAgree, InfoIsServers, PlansAreTold};
 ghost use Rattle.reql_told.specs.Looks.{AllAreSeenAtTheirSlots, AllDroppedTablesAreTold, AllLookAtNoOthers, AllReadSlotsAreLookedAt, AllTermsGoOnInWhatWasSeen, AllValuesAreOfWhatWasSeen};
 ghost use Rattle.reql_told.specs.Refusing.{FirstRefusal, ShapeRefusal};
@@ -27,22 +28,23 @@ use reql_words::{Command, command_of};
 use std::alloc::Global;
 use std::sync::Wait;
 
-// Serves one session to who has the key, with these tables from the start. An `Err` hands the link back as it came.
+// Serves one session to who has the key or the password, with these tables from the start. An `Err` hands the link back as it came.
 fn serve<R: Wait, L: Link + Drop, D: Dice + Drop, T: Clock + Drop>(
     rt: &R,
     alloc: Global,
     key: &str,
+    password: &str,
     tables: &[(&str, &str)],
     stdio: L,
     dice: D,
     clock: T,
 ) -> Result<Ended<Core, L::Record>, Refused<L>>
     requires fresh { IsFresh (L.tape stdio) }
-    ensures served { IfOk result (λ ended. IsServed (state_of held_in) (λ n. n) key.now (map named tables.now) (T.told clock) (D.told dice)
+    ensures served { IfOk result (λ ended. IsServed (state_of held_in) (λ n. n) (keys_by key.now password.now) (map named tables.now) (T.told clock) (D.told dice)
         (L.kept ended.session.tape) ended.session.end ended.session.turns ended.hall) }
     ensures back { IfErr result (λ refused. refused.back ≡ stdio) }
 {
-    let Ok(start) = begin(alloc, key, tables) else {
+    let Ok(start) = begin(alloc, key, password, tables) else {
         return Err(Refused { back: stdio });
     };
     let Start {
@@ -54,8 +56,9 @@ fn serve<R: Wait, L: Link + Drop, D: Dice + Drop, T: Clock + Drop>(
     serve_one(rt, alloc, names, engines, &planner, stdio, clock, dice)
 }
 
-/// Serves one session over `stdio`, with what the words ask for: `stdio [--key K] [--table DB.NAME]..`, its options in any
-/// order. K has at most 1024 bytes, and a greeting must bring it; without it the key is empty. The database `test` is
+/// Serves one session over `stdio`, with what the words ask for: `stdio [--key K] [--password P] [--table DB.NAME]..`, its
+/// options in any order. K has at most 1024 bytes, and a greeting must bring it; without it the key is empty. P has at most 256
+/// characters, and who logs in, as `admin`, must know it; without it the password is empty. The database `test` is
 /// there, and each table that is named, with its database and the key field `id`.
 ///
 /// The link is fresh. With other words the status is 2, and where memory is wanted before a session begins it is 8; then
@@ -157,13 +160,27 @@ pub fn run<R: Wait, L: Link + Drop, D: Dice + Drop, T: Clock + Drop>(
     table_laws();
     feeds_show_their_terms();
     answers_are_placed();
-    let Command::Stdio { key, tables } = command_of(words) else {
+    let Command::Stdio {
+        key,
+        password,
+        tables,
+    } = command_of(words)
+    else {
         return Outcome {
             status: 2,
             ended: Err(stdio),
         };
     };
-    match serve(rt, alloc, key, tables.as_slice(), stdio, dice, clock) {
+    match serve(
+        rt,
+        alloc,
+        key,
+        password,
+        tables.as_slice(),
+        stdio,
+        dice,
+        clock,
+    ) {
         Ok(ended) => Outcome {
             status: status_of(ended.session.end),
             ended: Ok(ended),

@@ -4,6 +4,7 @@
 
 mod many;
 mod one;
+mod parting;
 mod seats;
 mod serving;
 mod worker;

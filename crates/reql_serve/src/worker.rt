@@ -4,6 +4,7 @@ ghost use Rattle.reql_hall.specs.Rooms.{Sits};
 ghost use Rattle.reql_story.specs.Books.{no_books};
 ghost use Rattle.reql_serve.specs.Working.{SitsAt, WorkedThere, Linked, Turns, Worked, outside};
 
+use crate::parting::{parting_of, rest_of};
 use reql_catalog::Catalogue;
 use reql_hall::Hall;
 use reql_law::TableEngine;
@@ -86,6 +87,7 @@ fn serve_link<H: Handler<G::Link>, G: Door>(
         Accept::Failed => WorkState::Failed,
         Accept::Link(link) => {
             let served = serve_session(alloc, link, handler);
+            door.leaves(&served.tape, parting_of(served.end));
             ended.push_reserved(Member { desk, served });
             WorkState::Ready
         }
@@ -234,6 +236,7 @@ where
         worker.left,
         &mut worker.ended,
     );
+    worker.door.rests(rest_of(state));
     worker.bench = Some(bench);
     worker.left = left;
     worker.state = state;

@@ -2,20 +2,37 @@
 use Rattle.std.proofs.Common.{◌≡◌, ℕ, suc, Bool, true, false, ◌||◌, ◌&&◌, not, cond, nat_lt, List, [], ◌∷◌, ◌++◌, length, map, Some, Result, Ok, Err, refl, sym, ap, subst, ◌∙◌}
 use Rattle.std.specs.Borrow.{Bor}
 use Rattle.std.specs.List.{list_any}
-use Rattle.reql_words.specs.Words.{Said, SaysAll, Wrong, asks_options, goes_on, is_one_more, is_pair, most_tables, named, one_more, table_in, with_option, with_table}
+use Rattle.reql_words.specs.Words.{Asks, Said, SaysAll, Wrong, asks_options, goes_on, is_one_more, is_pair, is_whole, lacks_value, most_tables, named, one_more, serves, table_in, with_option, with_table, with_whole}
 use Rattle.reql_words.specs.declared.words.Refusal.{Refusal}
 
--- two words, as a slice is taken apart
+-- one word, and two, as a slice is taken apart
+pub one_word : {A : Type 0} (f : A → List ℕ) (xs rest : List A) (x : A) (w : List ℕ) → xs ≡ x ∷ rest → w ≡ f x → map f xs ≡ w ∷ map f rest
+one_word f xs rest x w first is = cc
+
 pub two_words : {A : Type 0} (f : A → List ℕ) (xs rest more : List A) (x y : A) (w v : List ℕ) → xs ≡ x ∷ rest → rest ≡ y ∷ more → w ≡ f x → v ≡ f y
     → map f xs ≡ w ∷ v ∷ map f more
 two_words f xs rest more x y w v first then is also = cc
 
--- what the others ask for is what all ask for
-pub after_option : (w v : List ℕ) (all ws : List (List ℕ)) (said next last : Said) (r : Result (Unit {0}) Refusal) → all ≡ w ∷ v ∷ ws → with_option w v said ≡ Ok next
+-- a word that says an option whole, and an option with the next word
+one_whole : (w : List ℕ) (ws : List (List ℕ)) (said : Said) → is_whole w ≡ true → asks_options (w ∷ ws) said ≡ goes_on (with_whole w said) (λ s. asks_options ws s)
+one_whole w [] said e = ap (λ b. cond b (goes_on (with_whole w said) serves) (lacks_value w said)) e
+one_whole w (v ∷ ws) said e = ap (λ b. cond b (goes_on (with_whole w said) (asks_options (v ∷ ws))) (goes_on (with_option w v said) (asks_options ws))) e
+
+one_pair : (w v : List ℕ) (ws : List (List ℕ)) (said : Said) → is_whole w ≡ false → asks_options (w ∷ (v ∷ ws)) said ≡ goes_on (with_option w v said) (λ s. asks_options ws s)
+one_pair w v ws said e = ap (λ b. cond b (goes_on (with_whole w said) (asks_options (v ∷ ws))) (goes_on (with_option w v said) (asks_options ws))) e
+
+-- what is asked after a step
+step : (all ws : List (List ℕ)) (said next last : Said) (o : Result Said Asks) (r : Result (Unit {0}) Refusal) → asks_options all said ≡ goes_on o (λ s. asks_options ws s) → o ≡ Ok next
     → SaysAll (asks_options ws next) last r → SaysAll (asks_options all said) last r
-after_option w v all ws said next last r words step says =
-    let same : asks_options all said ≡ asks_options ws next = ap (λ l. asks_options l said) words ∙ ap (λ o. goes_on o (asks_options ws)) step in
-    subst (λ a. SaysAll a last r) (sym same) says
+step all ws said next last o r goes is says = subst (λ a. SaysAll a last r) (sym (goes ∙ ap (λ p. goes_on p (λ s. asks_options ws s)) is)) says
+
+pub after_whole : (w : List ℕ) (all ws : List (List ℕ)) (said next last : Said) (r : Result (Unit {0}) Refusal) → all ≡ w ∷ ws → is_whole w ≡ true → with_whole w said ≡ Ok next
+    → SaysAll (asks_options ws next) last r → SaysAll (asks_options all said) last r
+after_whole w all ws said next last r words whole is says = step all ws said next last (with_whole w said) r (ap (λ l. asks_options l said) words ∙ one_whole w ws said whole) is says
+
+pub after_option : (w v : List ℕ) (all ws : List (List ℕ)) (said next last : Said) (r : Result (Unit {0}) Refusal) → all ≡ w ∷ v ∷ ws → is_whole w ≡ false → with_option w v said ≡ Ok next
+    → SaysAll (asks_options ws next) last r → SaysAll (asks_options all said) last r
+after_option w v all ws said next last r words whole is says = step all ws said next last (with_option w v said) r (ap (λ l. asks_options l said) words ∙ one_pair w v ws said whole) is says
 
 -- whether one of the images is such
 any_of : {A B : Type 0} (p : B → Bool) (f : A → B) (xs : List A) → list_any p (map f xs) ≡ list_any (λ x. p (f x)) xs

@@ -1,8 +1,8 @@
 -- What the words of the command line ask for.
-use Rattle.std.specs.Prelude.{◌≡◌, ℕ, List, [], ◌∷◌, ◌++◌, length, Option, Some, None, option_map, is_none, unwrap_or, Result, Ok, Err, Bool, false, ◌&&◌, ◌||◌, ◌==◌, not, nat_le, nat_lt, cond, codes, map}
+use Rattle.std.specs.Prelude.{◌≡◌, ℕ, List, [], ◌∷◌, ◌++◌, length, Option, Some, None, option_map, is_none, is_some, unwrap_or, Result, Ok, Err, Bool, true, false, ◌&&◌, ◌||◌, ◌==◌, not, nat_le, nat_lt, cond, codes, map}
 use Rattle.std.specs.Borrow.{Bor}
 use Rattle.std.specs.Char.{is_ascii_digit}
-use Rattle.std.specs.List.{list_all, list_any, before_first, after_first}
+use Rattle.std.specs.List.{list_all, list_any, position_or_len, before_first, after_first}
 use Rattle.std.specs.Str.{bytes_eq}
 use Rattle.std.specs.Str.Parse.{digits_value}
 use Rattle.reql_wire.specs.Greeting.{longest_key}
@@ -17,29 +17,47 @@ use Rattle.reql_words.specs.declared.words.Refusal.TheVariants as refuses
 use Rattle.reql_words.specs.declared.words.Wanted.{Wanted}
 use Rattle.reql_words.specs.declared.words.Wanted.TheVariants as wanted
 
--- what the words ask for; sessions are served by a key, with tables by database and name, one of them over standard input and output,
--- or on a port so many at once and so many in all; a load has a seed and a size; in place of a word that is not within, a number from the least to the most is wanted
+-- what the words ask for; sessions are served by a key and a password, with tables by database and name, one of them over standard
+-- input and output, or on a port so many at once and so many in all, and quietly or not; or the words have to say what stands in this
+-- file before they ask for sessions; a load has a seed and a size; in place of a word that is not within, a number from the least to the
+-- most is wanted
 pub data Asks : Type 0 where
-  Stdio : List ℕ → List (List ℕ × List ℕ) → Asks
-  Listen : ℕ → ℕ → ℕ → List ℕ → List (List ℕ × List ℕ) → Asks
+  Stdio : List ℕ → List ℕ → List (List ℕ × List ℕ) → Asks
+  Listen : ℕ → ℕ → ℕ → List ℕ → List ℕ → Bool → List (List ℕ × List ℕ) → Asks
+  PasswordFile : List ℕ → Asks
   Load : ℕ → ℕ → Asks
   Help : Asks
   Version : Asks
   Wrong : List ℕ → Asks
   NotWithin : List ℕ → ℕ → ℕ → Asks
+  BadPassword : Asks
   Missing : Wanted → Asks
 
--- what the options of a server so far have said: a key, tables in the order of the words, and numbers
+-- what the options of a server so far have said: a key, a password or the file that it stands in, tables in the order of the words,
+-- numbers, and whether to say little
 pub record Said : Type 0 where
   pub server : Server
   pub key : Option (List ℕ)
+  pub password : Option (List ℕ)
+  pub file : Option (List ℕ)
   pub tables : List (List ℕ × List ℕ)
   pub port : Option ℕ
   pub workers : Option ℕ
   pub sessions : Option ℕ
+  pub quiet : Bool
 
 abbrev pub said_nothing : Server → Said
-said_nothing server = record { server = server; key = None; tables = []; port = None; workers = None; sessions = None }
+said_nothing server = record {
+  server = server;
+  key = None;
+  password = None;
+  file = None;
+  tables = [];
+  port = None;
+  workers = None;
+  sessions = None;
+  quiet = false;
+}
 
 -- a word's database and table stand before and behind its first point, and both are names; the empty text, where it has none, isn't
 abbrev pub is_point : ℕ → Bool
@@ -61,6 +79,29 @@ with_key word value said =
     cond (is_none said.key)
     (cond (nat_le (length value) longest_key) (Ok (record said { key = Some value })) (Err (Wrong value)))
     (Err (Wrong word))
+
+-- a password has at most 256 characters, each a printable one of ASCII
+abbrev pub longest_password : ℕ
+longest_password = 256
+
+abbrev pub is_printable : ℕ → Bool
+is_printable b = nat_le 32 b && nat_le b 126
+
+abbrev pub is_password : List ℕ → Bool
+is_password value = nat_le (length value) longest_password && list_all is_printable value
+
+-- a password is said once, by itself or by its file, and no fault tells it
+abbrev pub no_password : Said → Bool
+no_password said = is_none said.password && is_none said.file
+
+abbrev pub with_password : List ℕ → List ℕ → Said → Result Said Asks
+with_password word value said =
+    cond (no_password said)
+    (cond (is_password value) (Ok (record said { password = Some value })) (Err BadPassword))
+    (Err (Wrong word))
+
+abbrev pub with_file : List ℕ → List ℕ → Said → Result Said Asks
+with_file word value said = cond (no_password said) (Ok (record said { file = Some value })) (Err (Wrong word))
 
 -- a table is said once, and no more than there may be
 abbrev pub one_more : List ℕ → Said → Option (List ℕ × List ℕ) → Result Said Asks
@@ -120,7 +161,31 @@ with_number servers.Listen word value said =
 abbrev pub with_option : List ℕ → List ℕ → Said → Result Said Asks
 with_option word value said =
     cond (bytes_eq word (codes "--key")) (with_key word value said)
-    (cond (bytes_eq word (codes "--table")) (with_table value said) (with_number said.server word value said))
+    (cond (bytes_eq word (codes "--table")) (with_table value said)
+    (cond (bytes_eq word (codes "--password")) (with_password word value said)
+    (cond (bytes_eq word (codes "--password-file")) (with_file word value said) (with_number said.server word value said))))
+
+-- an option that one word says whole: with its value behind the first equals sign, or one that has no value, which a server that
+-- listens has alone, and which is said once
+abbrev pub is_equals : ℕ → Bool
+is_equals b = b == 61
+
+abbrev pub value_in : List ℕ → Option (List ℕ × List ℕ)
+value_in word = cond (nat_lt (position_or_len is_equals word) (length word)) (Some (before_first is_equals word, after_first is_equals word)) None
+
+abbrev pub is_whole : List ℕ → Bool
+is_whole word = is_some (value_in word) || bytes_eq word (codes "--quiet")
+
+abbrev pub with_quiet : Server → List ℕ → Said → Result Said Asks
+with_quiet servers.Stdio word said = Err (Wrong word)
+with_quiet servers.Listen word said = cond said.quiet (Err (Wrong word)) (Ok (record said { quiet = true }))
+
+abbrev pub with_value : List ℕ → Said → Option (List ℕ × List ℕ) → Result Said Asks
+with_value word said None = with_quiet said.server word said
+with_value word said (Some p) = with_option p.0 p.1 said
+
+abbrev pub with_whole : List ℕ → Said → Result Said Asks
+with_whole word said = with_value word said (value_in word)
 
 -- the words end at an option whose value is wanted
 abbrev pub lacks_number : Server → List ℕ → Said → Asks
@@ -133,29 +198,57 @@ lacks_number servers.Listen word said =
 abbrev pub lacks_value : List ℕ → Said → Asks
 lacks_value word said =
     cond (bytes_eq word (codes "--key") && is_none said.key) (Missing wanted.Key)
-    (cond (bytes_eq word (codes "--table")) (Missing wanted.TableName) (lacks_number said.server word said))
+    (cond (bytes_eq word (codes "--table")) (Missing wanted.TableName)
+    (cond (bytes_eq word (codes "--password") && no_password said) (Missing wanted.Password)
+    (cond (bytes_eq word (codes "--password-file") && no_password said) (Missing wanted.PasswordFile) (lacks_number said.server word said))))
 
--- all options are said; without a key it is empty, and a port has to be said; without more, 4 workers serve as many sessions as may be
-abbrev pub listens : Said → Option ℕ → Asks
-listens said None = Missing wanted.Port
-listens said (Some port) = Listen port (unwrap_or said.workers 4) (unwrap_or said.sessions 4294967295) (unwrap_or said.key []) said.tables
-
+-- All options are said. Without a key it is empty, and so is the password; without a port it is 28015, which drivers use where none is
+-- said; without more, 4 workers serve as many sessions as may be.
 abbrev pub serves_by : Server → Said → Asks
-serves_by servers.Stdio said = Stdio (unwrap_or said.key []) said.tables
-serves_by servers.Listen said = listens said said.port
+serves_by servers.Stdio said = Stdio (unwrap_or said.key []) (unwrap_or said.password []) said.tables
+serves_by servers.Listen said =
+    Listen (unwrap_or said.port 28015) (unwrap_or said.workers 4) (unwrap_or said.sessions 4294967295) (unwrap_or said.key [])
+    (unwrap_or said.password []) said.quiet said.tables
+
+-- where a password stands in a file, that comes first
+abbrev pub serves_from : Option (List ℕ) → Said → Asks
+serves_from None said = serves_by said.server said
+serves_from (Some file) said = PasswordFile file
 
 abbrev pub serves : Said → Asks
-serves said = serves_by said.server said
+serves said = serves_from said.file said
 
--- options in any order, each with the next word as its value, whatever it begins with
+-- options in any order, each said whole by one word, or with the next word as its value, whatever that begins with
 abbrev pub goes_on : Result Said Asks → (Said → Asks) → Asks
 goes_on (Ok said) rest = rest said
 goes_on (Err why) rest = why
 
 abbrev pub asks_options : List (List ℕ) → Said → Asks
 asks_options [] said = serves said
-asks_options (w ∷ []) said = lacks_value w said
-asks_options (w ∷ (v ∷ ws)) said = goes_on (with_option w v said) (asks_options ws)
+asks_options (w ∷ []) said = cond (is_whole w) (goes_on (with_whole w said) serves) (lacks_value w said)
+asks_options (w ∷ (v ∷ ws)) said =
+    cond (is_whole w) (goes_on (with_whole w said) (asks_options (v ∷ ws))) (goes_on (with_option w v said) (asks_options ws))
+
+-- the words with this password said in place of the file that it stands in
+abbrev pub told_value : List ℕ → List ℕ → Option (List ℕ × List ℕ) → List ℕ
+told_value password word None = word
+told_value password word (Some p) = cond (bytes_eq p.0 (codes "--password-file")) (codes "--password=" ++ password) word
+
+abbrev pub told_word : List ℕ → List ℕ → List ℕ
+told_word password word = told_value password word (value_in word)
+
+abbrev pub told_pair : List ℕ → List ℕ → List ℕ → List (List ℕ)
+told_pair password word value = cond (bytes_eq word (codes "--password-file")) (codes "--password" ∷ password ∷ []) (word ∷ value ∷ [])
+
+abbrev pub told_options : List ℕ → List (List ℕ) → List (List ℕ)
+told_options password [] = []
+told_options password (w ∷ []) = told_word password w ∷ []
+told_options password (w ∷ (v ∷ ws)) =
+    cond (is_whole w) (told_word password w ∷ told_options password (v ∷ ws)) (told_pair password w v ++ told_options password ws)
+
+abbrev pub told : List ℕ → List (List ℕ) → List (List ℕ)
+told password [] = []
+told password (w ∷ ws) = w ∷ told_options password ws
 
 -- the words end here
 abbrev pub ends_in : Asks → List (List ℕ) → Asks
@@ -185,7 +278,7 @@ asks (w ∷ ws) =
     cond (bytes_eq w (codes "stdio")) (asks_options ws (said_nothing servers.Stdio))
     (cond (bytes_eq w (codes "listen")) (asks_options ws (said_nothing servers.Listen))
     (cond (bytes_eq w (codes "load")) (asks_load ws)
-    (cond (bytes_eq w (codes "--help")) (ends_in Help ws)
+    (cond (bytes_eq w (codes "--help") || bytes_eq w (codes "-h")) (ends_in Help ws)
     (cond (bytes_eq w (codes "--version")) (ends_in Version ws) (Wrong w)))))
 
 -- a table as a command and the options hold it
@@ -200,11 +293,13 @@ is_one_more p tables = nat_lt (length tables) most_tables && not (list_any (λ t
 abbrev pub refused : Refusal → Asks
 refused (refuses.Wrong word) = Wrong word.now
 refused (refuses.NotWithin word least most) = NotWithin word.now least most
+refused refuses.BadPassword = BadPassword
 refused (refuses.Missing what) = Missing what
 
 abbrev pub Says : Asks → Command → Type 0
-Says a (says.Stdio key tables) = a ≡ Stdio key.now (map named tables.items)
-Says a (says.Listen port workers sessions key tables) = a ≡ Listen port workers sessions key.now (map named tables.items)
+Says a (says.Stdio key password tables) = a ≡ Stdio key.now password.now (map named tables.items)
+Says a (says.Listen port workers sessions key password quiet tables) = a ≡ Listen port workers sessions key.now password.now quiet (map named tables.items)
+Says a (says.PasswordFile path) = a ≡ PasswordFile path.now
 Says a (says.Load seed size) = a ≡ Load seed size
 Says a says.Help = a ≡ Help
 Says a says.Version = a ≡ Version
@@ -215,10 +310,13 @@ abbrev pub said_of : Options → Said
 said_of o = record {
   server = o.server;
   key = option_map (λ k. k.now) o.key;
+  password = option_map (λ p. p.now) o.password;
+  file = option_map (λ f. f.now) o.file;
   tables = map named o.tables.items;
   port = o.port;
   workers = o.workers;
   sessions = o.sessions;
+  quiet = o.quiet;
 }
 
 abbrev pub Steps : Result Said Asks → Said → Result (Unit {0}) Refusal → Type 0

@@ -1,9 +1,10 @@
 // The options of a command, one after another.
 ghost use Rattle.std.specs.Prelude.{◌≡◌, ◌≤◌, map, string_bytes, is_none, option_map, unwrap_or, IfOk, []};
-ghost use Rattle.reql_words.specs.Words.{Missing, Numbers, Says, SaysAll, Steps, asks_options, lacks_number, lacks_value, listens, number_once, refused, said_nothing, said_of, serves, with_key, with_number, with_option, with_port, with_sessions, with_table, with_workers, within_or};
+ghost use Rattle.reql_words.specs.Words.{Missing, Numbers, Says, SaysAll, Steps, asks_options, is_whole, lacks_number, lacks_value, no_password, number_once, refused, said_nothing, said_of, serves, serves_by, value_in, with_file, with_key, with_number, with_option, with_password, with_port, with_quiet, with_sessions, with_table, with_whole, with_workers, within_or};
 ghost use Rattle.reql_words.specs.declared.options.Server.TheVariants as servers;
 
 use crate::numbers::number_within;
+use crate::passwords::is_password;
 use crate::tables::{Tables, is_one_more, table_in};
 use crate::words::{Command, Refusal, Wanted};
 use reql_wire::LONGEST_KEY;
@@ -20,10 +21,13 @@ pub(crate) enum Server {
 pub(crate) struct Options<'a> {
     pub(crate) server: Server,
     pub(crate) key: Option<&'a str>,
+    pub(crate) password: Option<&'a str>,
+    pub(crate) file: Option<&'a str>,
     pub(crate) tables: Tables<'a>,
     pub(crate) port: Option<u16>,
     pub(crate) workers: Option<u32>,
     pub(crate) sessions: Option<u64>,
+    pub(crate) quiet: bool,
 }
 
 impl<'a> Options<'a> {
@@ -33,10 +37,13 @@ impl<'a> Options<'a> {
         Options {
             server,
             key: None,
+            password: None,
+            file: None,
             tables: Tables::new(),
             port: None,
             workers: None,
             sessions: None,
+            quiet: false,
         }
     }
 
@@ -44,29 +51,41 @@ impl<'a> Options<'a> {
     pub(crate) fn served(self) -> Command<'a>
         ensures { Says (serves (said_of self.entry)) result }
     {
-        match self.server {
-            Server::Stdio => Command::Stdio {
-                key: key_or_none(self.key),
-                tables: self.tables,
-            },
-            Server::Listen => self.listening(),
+        match self.file {
+            Some(path) => Command::PasswordFile { path },
+            None => self.serving(),
         }
     }
 
-    // All options of a server that listens are said.
-    fn listening(self) -> Command<'a>
-        ensures { Says (listens (said_of self.entry) self.entry.port) result }
+    // All options are said, and none names a file.
+    fn serving(self) -> Command<'a>
+        ensures { Says (serves_by self.entry.server (said_of self.entry)) result }
     {
-        match self.port {
-            Some(port) => Command::Listen {
-                port,
-                workers: self.workers.unwrap_or(4),
-                sessions: self.sessions.unwrap_or(4_294_967_295),
-                key: key_or_none(self.key),
+        let key = said_or_none(self.key);
+        let password = said_or_none(self.password);
+        match self.server {
+            Server::Stdio => Command::Stdio {
+                key,
+                password,
                 tables: self.tables,
             },
-            None => Command::Refused(Refusal::Missing { what: Wanted::Port }),
+            Server::Listen => Command::Listen {
+                port: self.port.unwrap_or(28_015),
+                workers: self.workers.unwrap_or(4),
+                sessions: self.sessions.unwrap_or(4_294_967_295),
+                key,
+                password,
+                quiet: self.quiet,
+                tables: self.tables,
+            },
         }
+    }
+
+    // Whether neither a password nor its file is said.
+    fn no_password(&self) -> bool
+        ensures { result ≡ no_password (said_of self.now) }
+    {
+        self.password.is_none() && self.file.is_none()
     }
 }
 
@@ -78,12 +97,55 @@ pub(crate) fn say_all<'a>(words: &'a [String], said: &mut Options<'a>) -> Result
     let Some((word, rest)) = words.split_first() else {
         return Ok(());
     };
+    let word = word.as_str();
+    if is_whole(word) {
+        return match with_whole(word, said) {
+            Ok(()) => say_all(rest, said),
+            Err(refusal) => Err(refusal),
+        };
+    }
     let Some((value, rest)) = rest.split_first() else {
-        return Err(lacks_value(word.as_str(), said));
+        return Err(lacks_value(word, said));
     };
-    match with_option(word.as_str(), value.as_str(), said) {
+    match with_option(word, value.as_str(), said) {
         Ok(()) => say_all(rest, said),
         Err(refusal) => Err(refusal),
+    }
+}
+
+// Whether the word says an option whole: with its value behind the first equals sign, or one without a value.
+pub(crate) fn is_whole(word: &str) -> bool
+    ensures { result ≡ is_whole word.now }
+{
+    value_in(word).is_some() || word == "--quiet"
+}
+
+// An option and its value, where the word has an equals sign.
+pub(crate) fn value_in(word: &str) -> Option<(&str, &str)>
+    ensures { option_map (λ p. (p.0.now, p.1.now)) result ≡ value_in word.now }
+{
+    word.split_once('=')
+}
+
+// One more option is said by one word, or this is why it can't be.
+fn with_whole<'a>(word: &'a str, said: &mut Options<'a>) -> Result<(), Refusal<'a>>
+    ensures { Steps (with_whole word.now (said_of said.old)) (said_of said.new) result }
+{
+    match value_in(word) {
+        Some((option, value)) => with_option(option, value, said),
+        None => with_quiet(word, said),
+    }
+}
+
+fn with_quiet<'a>(word: &'a str, said: &mut Options<'a>) -> Result<(), Refusal<'a>>
+    ensures { Steps (with_quiet said.old.server word.now (said_of said.old)) (said_of said.new) result }
+{
+    match said.server {
+        Server::Listen if !said.quiet => {
+            said.quiet = true;
+            Ok(())
+        }
+        _ => Err(Refusal::Wrong { word }),
     }
 }
 
@@ -94,6 +156,8 @@ fn with_option<'a>(word: &'a str, value: &'a str, said: &mut Options<'a>) -> Res
     match word {
         "--key" => with_key(word, value, said),
         "--table" => with_table(value, said),
+        "--password" => with_password(word, value, said),
+        "--password-file" => with_file(word, value, said),
         _ => match said.server {
             Server::Stdio => Err(Refusal::Wrong { word }),
             Server::Listen => with_number(word, value, said),
@@ -111,6 +175,34 @@ fn with_key<'a>(word: &'a str, value: &'a str, said: &mut Options<'a>) -> Result
         return Err(Refusal::Wrong { word: value });
     }
     said.key = Some(value);
+    Ok(())
+}
+
+// No refusal tells the password.
+fn with_password<'a>(
+    word: &'a str,
+    value: &'a str,
+    said: &mut Options<'a>,
+) -> Result<(), Refusal<'a>>
+    ensures { Steps (with_password word.now value.now (said_of said.old)) (said_of said.new) result }
+{
+    if !said.no_password() {
+        return Err(Refusal::Wrong { word });
+    }
+    if !is_password(value) {
+        return Err(Refusal::BadPassword);
+    }
+    said.password = Some(value);
+    Ok(())
+}
+
+fn with_file<'a>(word: &'a str, value: &'a str, said: &mut Options<'a>) -> Result<(), Refusal<'a>>
+    ensures { Steps (with_file word.now value.now (said_of said.old)) (said_of said.new) result }
+{
+    if !said.no_password() {
+        return Err(Refusal::Wrong { word });
+    }
+    said.file = Some(value);
     Ok(())
 }
 
@@ -209,6 +301,12 @@ fn lacks_value<'a>(word: &'a str, said: &Options<'a>) -> Refusal<'a>
     if word == "--table" {
         return missing(Wanted::TableName);
     }
+    if word == "--password" && said.no_password() {
+        return missing(Wanted::Password);
+    }
+    if word == "--password-file" && said.no_password() {
+        return missing(Wanted::PasswordFile);
+    }
     match said.server {
         Server::Stdio => Refusal::Wrong { word },
         Server::Listen => lacks_number(word, said),
@@ -238,11 +336,12 @@ pub(crate) fn missing<'a>(what: Wanted) -> Refusal<'a>
     Refusal::Missing { what }
 }
 
-fn key_or_none(key: Option<&str>) -> &str
-    ensures { result.now ≡ unwrap_or (option_map (λ k. k.now) key.entry) [] }
+// What an option says, and nothing where it isn't said.
+fn said_or_none(said: Option<&str>) -> &str
+    ensures { result.now ≡ unwrap_or (option_map (λ k. k.now) said.entry) [] }
 {
-    match key {
-        Some(key) => key,
+    match said {
+        Some(said) => said,
         None => "",
     }
 }

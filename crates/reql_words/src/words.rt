@@ -14,7 +14,11 @@ pub enum Wanted {
     Key,
     /// The table after `--table`.
     TableName,
-    /// The port after `--port`, without which no server listens.
+    /// The password after `--password`.
+    Password,
+    /// The file after `--password-file`.
+    PasswordFile,
+    /// The port after `--port`.
     Port,
     /// The number of workers after `--workers`.
     Workers,
@@ -40,6 +44,9 @@ pub enum Refusal<'a> {
         least: u64,
         most: u64,
     },
+    /// What is said by `--password` is more than 256 characters, or one of them is no printable one of
+    /// ASCII.
+    BadPassword,
     /// The words end where this is wanted.
     Missing {
         what: Wanted,
@@ -49,20 +56,30 @@ pub enum Refusal<'a> {
 /// What the words ask for.
 #[derive(Drop)]
 pub enum Command<'a> {
-    /// Serve one session over standard input and output to who has this authorization key, with
-    /// these tables: each once, by its database and its name, in the order of the words.
+    /// Serve one session over standard input and output to who has this authorization key, or logs
+    /// in with this password, with these tables: each once, by its database and its name, in the
+    /// order of the words.
     Stdio {
         key: &'a str,
+        password: &'a str,
         tables: Tables<'a>,
     },
     /// Serve so many sessions in all, 1 to 4294967295, as they connect to this port, 1 to 65535, so
-    /// many at a time as there are workers, 1 to 64. The key and the tables are as above.
+    /// many at a time as there are workers, 1 to 64. Where it is quiet, say nothing of them. The key,
+    /// the password and the tables are as above.
     Listen {
         port: u16,
         workers: u32,
         sessions: u64,
         key: &'a str,
+        password: &'a str,
+        quiet: bool,
         tables: Tables<'a>,
+    },
+    /// Put the password that stands in this file in the file's place among the words, and do what
+    /// they ask for then.
+    PasswordFile {
+        path: &'a str,
     },
     /// Serve the load of this seed, 0 to 1000000, with so many documents, 1 to 20000, and say what it left.
     Load {
@@ -77,11 +94,14 @@ pub enum Command<'a> {
     Refused(Refusal<'a>),
 }
 
-/// What the words ask for: `stdio [--key K] [--table DB.NAME]..` or
-/// `listen --port P [--workers W] [--sessions S] [--key K] [--table DB.NAME]..`, the options in any
-/// order, `load SEED SIZE`, `--help` or `--version`, each alone. A key has at most 1024 bytes, there are
-/// at most 256 tables, P is 1 to 65535, W is 1 to 64 and 4 where it isn't said, and S is 1 to 4294967295,
-/// and this where it isn't said; SEED is 0 to 1000000 and SIZE 1 to 20000. It takes no memory.
+/// What the words ask for: `stdio [--key K] [--password P] [--table DB.NAME]..` or
+/// `listen [--port P] [--workers W] [--sessions S] [--quiet] [--key K] [--password P] [--table DB.NAME]..`,
+/// the options in any order, `load SEED SIZE`, `--help`, `-h` or `--version`, each alone. `--key=K` is
+/// taken as `--key K`, and so is every option with a value; `--password-file F` stands for a password. A
+/// key has at most 1024 bytes, a password at most 256, each a printable one of ASCII; there are at most
+/// 256 tables; P is 1 to 65535 and 28015 where it isn't said, W is 1 to 64 and 4 where it isn't said, and
+/// S is 1 to 4294967295, and this where it isn't said; SEED is 0 to 1000000 and SIZE 1 to 20000. It takes
+/// no memory.
 pub fn command_of(words: &[String]) -> Command<'_>
     ensures { Says (asks (map string_bytes words.now)) result }
 {
@@ -94,7 +114,7 @@ pub fn command_of(words: &[String]) -> Command<'_>
         "stdio" => server_of(Server::Stdio, rest),
         "listen" => server_of(Server::Listen, rest),
         "load" => load_of(rest),
-        "--help" => ended(Command::Help, rest),
+        "--help" | "-h" => ended(Command::Help, rest),
         "--version" => ended(Command::Version, rest),
         word => Command::Refused(Refusal::Wrong { word }),
     }

@@ -1,4 +1,4 @@
-use reql_words::{Command, Refusal, Wanted, command_of};
+use reql_words::{Command, Refusal, Wanted, command_of, with_password};
 use std::alloc::Global;
 use std::test::Fail;
 
@@ -17,10 +17,48 @@ const LOADS: [(&[&str], &str); 10] = [
 ];
 
 // Words, and what they ask for, as `shown` says it.
-const CASES: [(&[&str], &str); 64] = [
+const CASES: [(&[&str], &str); 81] = [
     (&[], "a command is missing"),
     (&["--help"], "help"),
     (&["--help", "stdio"], "wrong `stdio`"),
+    (&["-h"], "help"),
+    (&["-h", "-h"], "wrong `-h`"),
+    (
+        &[
+            "listen",
+            "--quiet",
+            "--port=1",
+            "--key=a=b",
+            "--table=a.b",
+            "--workers=2",
+            "--sessions=3",
+            "--password=p ~",
+        ],
+        "listen 1 2 3 `a=b` `p ~` quiet a/b",
+    ),
+    (&["listen", "--port="], "`` isn't 1 to 65535"),
+    (&["listen", "--verbose=1"], "wrong `--verbose`"),
+    (&["listen", "--quiet", "--quiet"], "wrong `--quiet`"),
+    (&["listen", "--quiet=yes"], "wrong `--quiet`"),
+    (&["stdio", "--quiet"], "wrong `--quiet`"),
+    (&["stdio", "--password"], "a password is missing"),
+    (&["stdio", "--password", ""], "stdio ``"),
+    (&["stdio", "--password", "é"], "a bad password"),
+    (&["stdio", "--password=a\nb"], "a bad password"),
+    (
+        &["stdio", "--password", "", "--password", "b"],
+        "wrong `--password`",
+    ),
+    (&["stdio", "--password-file"], "a file is missing"),
+    (&["listen", "--password-file", "f"], "the password in `f`"),
+    (
+        &["stdio", "--password-file=f", "--password=b"],
+        "wrong `--password`",
+    ),
+    (
+        &["stdio", "--password=b", "--password-file=f"],
+        "wrong `--password-file`",
+    ),
     (&["--version"], "version"),
     (&["--version", "--help"], "wrong `--help`"),
     (&[""], "wrong ``"),
@@ -50,8 +88,8 @@ const CASES: [(&[&str], &str); 64] = [
         &["listen", "--port", "1", "--workers", "1", "--sessions", "1"],
         "listen 1 1 1 ``",
     ),
-    (&["listen"], "a port is missing"),
-    (&["listen", "--workers", "2"], "a port is missing"),
+    (&["listen"], "listen 28015 4 4294967295 ``"),
+    (&["listen", "--workers", "2"], "listen 28015 2 4294967295 ``"),
     (&["listen", "--port"], "a port is missing"),
     (&["listen", "--port", "1", "--port"], "wrong `--port`"),
     (&["listen", "--port", "1", "--port", "1"], "wrong `--port`"),
@@ -155,6 +193,8 @@ fn missing(what: Wanted) -> &'static str {
         Wanted::Command => "a command is missing",
         Wanted::Key => "a key is missing",
         Wanted::TableName => "a table is missing",
+        Wanted::Password => "a password is missing",
+        Wanted::PasswordFile => "a file is missing",
         Wanted::Port => "a port is missing",
         Wanted::Workers => "a number of workers is missing",
         Wanted::Sessions => "a number of sessions is missing",
@@ -171,25 +211,43 @@ fn with_tables(alloc: Global, text: String, tables: &[(&str, &str)]) -> Result<S
     Ok(text)
 }
 
+// A password, where it isn't empty, and whether it is quiet.
+fn with_words(alloc: Global, text: String, password: &str, quiet: bool) -> Result<String, Fail> {
+    let mut text = text;
+    if !password.is_empty() {
+        text.push_str(&format!(in alloc; " `{password}`")?)?;
+    }
+    if quiet {
+        text.push_str(" quiet")?;
+    }
+    Ok(text)
+}
+
 fn shown(alloc: Global, command: &Command<'_>) -> Result<String, Fail> {
     match command {
-        Command::Stdio { key, tables } => {
-            with_tables(
-                alloc,
-                format!(in alloc; "stdio `{key}`")?,
-                tables.as_slice(),
-            )
+        Command::Stdio {
+            key,
+            password,
+            tables,
+        } => {
+            let text = format!(in alloc; "stdio `{key}`")?;
+            let text = with_words(alloc, text, password, false)?;
+            with_tables(alloc, text, tables.as_slice())
         }
         Command::Listen {
             port,
             workers,
             sessions,
             key,
+            password,
+            quiet,
             tables,
         } => {
             let text = format!(in alloc; "listen {port} {workers} {sessions} `{key}`")?;
+            let text = with_words(alloc, text, password, *quiet)?;
             with_tables(alloc, text, tables.as_slice())
         }
+        Command::PasswordFile { path } => Ok(format!(in alloc; "the password in `{path}`")?),
         Command::Load { seed, size } => Ok(format!(in alloc; "load {seed} {size}")?),
         Command::Help => Ok(String::from_str(alloc, "help")?),
         Command::Version => Ok(String::from_str(alloc, "version")?),
@@ -197,6 +255,7 @@ fn shown(alloc: Global, command: &Command<'_>) -> Result<String, Fail> {
         Command::Refused(Refusal::NotWithin { word, least, most }) => {
             Ok(format!(in alloc; "`{word}` isn't {least} to {most}")?)
         }
+        Command::Refused(Refusal::BadPassword) => Ok(String::from_str(alloc, "a bad password")?),
         Command::Refused(Refusal::Missing { what }) => {
             Ok(String::from_str(alloc, missing(*what))?)
         }
@@ -245,6 +304,40 @@ fn words_ask_for_commands_within_their_limits(rt: HostRuntime) -> Result<(), Fai
         let (key, name) = (long(alloc, key)?, long(alloc, name)?);
         let words = many(alloc, &key, &name, tables)?;
         assert!(rt; asked(alloc, &words)?.starts_with(begins), "{begins}");
+    }
+    Ok(())
+}
+
+// How long a password is, and what is asked for.
+const PASSWORDS: [(usize, &str); 2] = [(256, "stdio `` `nnn"), (257, "a bad password")];
+
+#[test]
+fn passwords_have_at_most_256_characters(rt: HostRuntime) -> Result<(), Fail> {
+    let alloc = rt.alloc();
+    for (bytes, begins) in PASSWORDS {
+        let password = long(alloc, bytes)?;
+        let words = list(alloc, &["stdio", "--password", &password])?;
+        assert!(rt; asked(alloc, &words)?.starts_with(begins), "{begins}");
+    }
+    Ok(())
+}
+
+// Words that name a file, and words in which the password `p` stands in its place.
+const TOLD: [(&[&str], &[&str]); 3] = [
+    (&[], &[]),
+    (
+        &["listen", "--key", "--password-file", "--password-file", "f", "--quiet", "--table=a.b"],
+        &["listen", "--key", "--password-file", "--password", "p", "--quiet", "--table=a.b"],
+    ),
+    (&["stdio", "--password-file=f"], &["stdio", "--password=p"]),
+];
+
+#[test]
+fn a_password_is_told_in_place_of_its_file(rt: HostRuntime) -> Result<(), Fail> {
+    let alloc = rt.alloc();
+    for (words, expected) in TOLD {
+        let words = list(alloc, words)?;
+        assert_eq!(rt; with_password(alloc, &words, "p")?, list(alloc, expected)?);
     }
     Ok(())
 }

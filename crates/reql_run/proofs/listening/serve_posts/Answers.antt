@@ -2,7 +2,7 @@ use Rattle.std.proofs.Common.{◌∙◌, ap, map, replicate, IfOk}
 use Rattle.reql_catalog.specs.Machine.{opening}
 use Rattle.reql_law.specs.Limits.{usual_limits}
 use Rattle.reql_law.specs.Machine.{unused}
-use Rattle.reql_told.specs.Told.{talk}
+use Rattle.reql_told.specs.Told.{keys_by, talk}
 use Rattle.reql_core.specs.Core.{state_of}
 use Rattle.reql_open_feed.specs.Open.{held_in}
 use Rattle.reql_serve.specs.Working.{outside}
@@ -19,11 +19,11 @@ serve_many-requires-clause-slots_unused g c κs within = all_unused (state_of he
 
 pub returns-clause-served : goal.returns-clause-served
 returns-clause-served g c =
-    moved (λ k l n es. IfOk c.serve_many.result (λ many. ServesMany (talk k l) (unused 0 0) g.G.Link.Link.kept (state_of held_in) (λ n. n) n es
+    moved (λ k w l n es. IfOk c.serve_many.result (λ many. ServesMany (talk (keys_by k w) l) (unused 0 0) g.G.Link.Link.kept (state_of held_in) (λ n. n) n es
     (map (λ p. outside (g.T.Clock.told p.clock) (g.D.Dice.told p.dice) (g.G.Door.told p.door)) c.args.posts.items) c.args.sessions
     (map (λ w. at_end (g.G.Door.told w.door) w.ended.items w.left w.state) many.workers.items) many.hall))
-    _ c.args.key.now _ usual_limits _ (opening (map named c.args.tables.now) usual_limits.slots) _ (replicate usual_limits.slots (unused usual_limits.feeds usual_limits.tail))
-    (ap (λ p. p.key.items) c.new-planner.ensures ∙ c.in-Ok.ensures.key) (ap (λ p. p.limits) c.new-planner.ensures ∙ c.in-Ok.ensures.limits) c.in-Ok.ensures.names c.in-Ok.ensures.engines
+    _ c.args.key.now _ c.args.password.now _ usual_limits _ (opening (map named c.args.tables.now) usual_limits.slots) _ (replicate usual_limits.slots (unused usual_limits.feeds usual_limits.tail))
+    (ap (λ p. p.key.items) c.new-planner.ensures ∙ c.in-Ok.ensures.key) (ap (λ p. p.password.items) c.new-planner.ensures ∙ c.in-Ok.ensures.password) (ap (λ p. p.limits) c.new-planner.ensures ∙ c.in-Ok.ensures.limits) c.in-Ok.ensures.names c.in-Ok.ensures.engines
     c.serve_many.ensures.served
 
 pub returns-clause-back : goal.returns-clause-back

@@ -1,4 +1,4 @@
-use Rattle.std.proofs.Common.{refl}
+use Rattle.std.proofs.Common.{refl, ◌∙◌}
 use Rattle.reql_serve.proofs.worker.serve_link.Goals as goal
 
 pub returns-in-Link-clause-linked : goal.returns-in-Link-clause-linked
@@ -8,5 +8,5 @@ returns-in-Link-clause-linked g c =
       c.push_reserved.ensures.items,
       refl,
       s.served,
-      c.in-Link.ensures.0,
+      c.leaves.ensures.still ∙ c.in-Link.ensures.0,
     )
