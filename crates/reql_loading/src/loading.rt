@@ -3,7 +3,7 @@ ghost use Rattle.std.specs.Prelude.{◌<◌, length, map, string_bytes, IfOk, If
 ghost use Rattle.reql_words.specs.Words.{asks};
 ghost use Rattle.reql_core.specs.Core.{state_of};
 ghost use Rattle.reql_open_feed.specs.Open.{held_in};
-ghost use Rattle.reql_told.specs.Laws.{AllInOrder, AllFramesHandled, AllWornLate, AllFirstFailed, AllAreAnswered, AllWaitForNothing, AllValidClose, AllFeedsHold, AllSkipsAreSent, AllFeedsAreRead, AllFeedsAreTheirs, AllFeedsAreOpened, AllFeedsBegin, AllFeedsOpen, AllFeedsEnd, AllContinuesAreAnswered, AllNothingKeptBack, AllOfFeedsIsSent, AllFeedsAreTold, AllBatchesAreOfFeeds, AllBatchesAreFull, AllTakesAreOfFeeds, AllIsSaid, AllArmsAreApart, AllTakesArePlaced, AllSubscribesArePlaced};
+ghost use Rattle.reql_told.specs.Laws.{AllInOrder, AllFramesHandled, AllLoginRollsFirst, AllWornLate, AllFirstFailed, AllAreAnswered, AllWaitForNothing, AllValidClose, AllFeedsHold, AllSkipsAreSent, AllFeedsAreRead, AllFeedsAreTheirs, AllFeedsAreOpened, AllFeedsBegin, AllFeedsOpen, AllFeedsEnd, AllContinuesAreAnswered, AllNothingKeptBack, AllOfFeedsIsSent, AllFeedsAreTold, AllBatchesAreOfFeeds, AllBatchesAreFull, AllTakesAreOfFeeds, AllIsSaid, AllArmsAreApart, AllTakesArePlaced, AllSubscribesArePlaced};
 ghost use Rattle.reql_serve.specs.Many.{at_end};
 ghost use Rattle.reql_loading.specs.Loading.{IsServed, Loads, Prints, Reports, Unloaded};
 
@@ -117,6 +117,7 @@ where
         (map (λ w. at_end w.door.told w.ended.items w.left w.state) many.workers.items) many.hall) }
     ensures in_order { AllInOrder }
     ensures frames_handled { AllFramesHandled }
+    ensures login_rolls_first { AllLoginRollsFirst }
     ensures worn_late { AllWornLate }
     ensures first_failed { AllFirstFailed }
     ensures answered { AllAreAnswered }

@@ -8,7 +8,7 @@ ghost use Rattle.reql_law.specs.Laws.{DocsAtStamp, StampCounts, FeedsComeAndGo, 
 ghost use Rattle.reql_law.specs.Terms.{PointsShowTheirTerms, RangesShowTheirTerms, LimitsShowTheirTerms};
 ghost use Rattle.reql_plan_law.specs.Looks.{ReadSlotsRise};
 ghost use Rattle.reql_told.specs.Told.{keys_by};
-ghost use Rattle.reql_told.specs.Laws.{AllInOrder, AllFramesHandled, AllWornLate, AllFirstFailed, AllAreAnswered, AllWaitForNothing, AllValidClose, AllFeedsHold, AllSkipsAreSent, AllFeedsAreRead, AllFeedsAreTheirs, AllFeedsAreOpened, AllFeedsBegin, AllFeedsOpen, AllFeedsEnd, AllContinuesAreAnswered, AllNothingKeptBack, AllOfFeedsIsSent, AllFeedsAreTold, AllBatchesAreOfFeeds, AllBatchesAreFull, AllTakesAreOfFeeds, AllIsSaid, AllFeedsAreAskedInTurn, AllRunNoOtherFeeds, AllFeedsEndWithTheirOwn, AllFaultyFeedsAreRefused, AllCrowdedFeedsAreRefused, AllNextFeedsAreRun, AllOpenFeedsAreTold, AllDeniedFeedsAreClosed, AllArmsAreApart, AllTakesArePlaced, AllSubscribesArePlaced, BatchesAgree, InfoIsServers, PlansAreTold};
+ghost use Rattle.reql_told.specs.Laws.{AllInOrder, AllFramesHandled, AllLoginRollsFirst, AllWornLate, AllFirstFailed, AllAreAnswered, AllWaitForNothing, AllValidClose, AllFeedsHold, AllSkipsAreSent, AllFeedsAreRead, AllFeedsAreTheirs, AllFeedsAreOpened, AllFeedsBegin, AllFeedsOpen, AllFeedsEnd, AllContinuesAreAnswered, AllNothingKeptBack, AllOfFeedsIsSent, AllFeedsAreTold, AllBatchesAreOfFeeds, AllBatchesAreFull, AllTakesAreOfFeeds, AllIsSaid, AllFeedsAreAskedInTurn, AllRunNoOtherFeeds, AllFeedsEndWithTheirOwn, AllFaultyFeedsAreRefused, AllCrowdedFeedsAreRefused, AllNextFeedsAreRun, AllOpenFeedsAreTold, AllDeniedFeedsAreClosed, AllArmsAreApart, AllTakesArePlaced, AllSubscribesArePlaced, BatchesAgree, InfoIsServers, PlansAreTold};
 ghost use Rattle.reql_told.specs.Looks.{AllAreSeenAtTheirSlots, AllDroppedTablesAreTold, AllLookAtNoOthers, AllReadSlotsAreLookedAt, AllTermsGoOnInWhatWasSeen, AllValuesAreOfWhatWasSeen};
 ghost use Rattle.reql_told.specs.Refusing.{FirstRefusal, ShapeRefusal};
 ghost use Rattle.reql_run.specs.Running.{IsServed, Serves, Unserved};
@@ -95,6 +95,7 @@ pub fn run<R: Wait, L: Link + Drop, D: Dice + Drop, T: Clock + Drop>(
     ensures back { IfErr result.ended (λ link. link ≡ stdio) }
     ensures in_order { AllInOrder }
     ensures frames_handled { AllFramesHandled }
+    ensures login_rolls_first { AllLoginRollsFirst }
     ensures worn_late { AllWornLate }
     ensures first_failed { AllFirstFailed }
     ensures answered { AllAreAnswered }
