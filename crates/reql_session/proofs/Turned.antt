@@ -65,7 +65,7 @@ module _ {PL : Type 0} (k : Talk PL) where
       (runs_quiet k t t w (mach_at w (spelling frame ++ rest) Admitted (Visits [])) (goes_on (mach_at w rest Admitted Rest) None (takes_up k w.books frame.token frame.body is_read)) 0
       (goes_said k t t (place_at w (mach_at w (spelling frame ++ rest) Admitted (Visits []))) (place_at w (goes_on (mach_at w rest Admitted Rest) None (takes_up k w.books frame.token frame.body is_read))) []
       (does_begin k (place_at w (mach_at w (spelling frame ++ rest) Admitted (Visits []))) frame is_read rest refl refl f refl) (same_moves t)))
-      (s rest true None)
+      (s rest Admitted None)
 
   pub read_or_not : (t u : Tape) (w v : AtWork) (token : ℕ) (body : List ℕ) (asked : Asked PL) (end : Option End) → asked ≡ k.asked body → SettlesOrWants k t u w v token (begin k w.books token asked) end → (is_read : Bool) × Settles k t u w v (takes_up k w.books token body is_read) end
   read_or_not t u w v token body asked end e (inl s) = (true, subst (λ z. Settles k t u w v (begin k w.books token z) end) e s)
