@@ -37,7 +37,7 @@ use Rattle.reql_serve.specs.contracts.worker.Member as member
 use Rattle.reql_serve.specs.contracts.worker.Worker as worker
 
 end_send : IsSend end.the_field.row
-end_send = search (sendable, crosses) depth 20
+end_send = search (sendable, crosses) depth 60
 
 module _ (R : RattleType) where
   served_send : IsSend R → IsSend (served.the_row R)

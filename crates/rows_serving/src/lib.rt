@@ -8,8 +8,6 @@ mod gate_net;
 #[cfg(test)]
 mod gates;
 #[cfg(test)]
-mod logins;
-#[cfg(test)]
 mod pieces;
 #[cfg(test)]
 mod tests;

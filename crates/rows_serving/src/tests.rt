@@ -11,7 +11,7 @@ use std::process::Abort;
 use std::sync::Wait;
 use std::test::Fail;
 
-pub const INSERTED: &str =
+const INSERTED: &str =
     "{\"n\":[],\"r\":[{\"deleted\":0,\"errors\":0,\"inserted\":1,\"replaced\":0,\"skipped\":0,\"unchanged\":0}],\"s\":{\"c\":0,\"t\":[[0,1,1]]},\"t\":1}";
 
 const GET: &str = "[1,[16,[[15,[\"docs\"]],1]]]";
@@ -46,7 +46,7 @@ fn was_sent(outcome: &Outcome<MemLink>, sent: &[u8]) -> bool {
 }
 
 // Serves a session on the table `docs`, and says how it has to end and what has to be sent.
-pub fn expect<R: Wait + Abort>(
+fn expect<R: Wait + Abort>(
     rt: &R,
     alloc: Global,
     link: MemLink,
@@ -80,7 +80,7 @@ fn expect_unasked<R: Wait + Abort>(
 }
 
 // A link that gives the input a byte at a time, and takes a byte a send; the k-th receive or send fails.
-pub fn faulty(alloc: Global, input: &[u8], recv: usize, send: u64) -> Result<MemLink, Fail>
+fn faulty(alloc: Global, input: &[u8], recv: usize, send: u64) -> Result<MemLink, Fail>
     ensures fresh { IfOk result (λ link. IsFresh link.tape) }
 {
     let mut script = Vec::new(alloc);
@@ -132,7 +132,7 @@ fn every_fault_of_the_link_ends_the_session_with_the_answers_before_it(
 }
 
 // A link that gives all of this at once.
-pub fn at_once(alloc: Global, input: Vec<u8>) -> Result<MemLink, Fail>
+fn at_once(alloc: Global, input: Vec<u8>) -> Result<MemLink, Fail>
     ensures fresh { IfOk result (λ link. IsFresh link.tape) }
 {
     let mut script = Vec::new(alloc);
@@ -140,7 +140,7 @@ pub fn at_once(alloc: Global, input: Vec<u8>) -> Result<MemLink, Fail>
     Ok(MemLink::new(alloc, script, Vec::new(alloc)))
 }
 
-pub const ROLLS: [[u8; 16]; 2] = [
+const ROLLS: [[u8; 16]; 2] = [
     [0, 1, 2, 3, 4, 5, 6, 7, 8, 9, 10, 11, 12, 13, 14, 15],
     [
         16, 17, 18, 19, 20, 21, 22, 23, 24, 25, 26, 27, 28, 29, 30, 31,
