@@ -5,9 +5,9 @@ use Rattle.reql_datum.specs.Answer.{Answer, ◌>>=◌}
 use Rattle.reql_datum.specs.Outcome.{Gives}
 use Rattle.reql_datum.specs.Plain.{Plain}
 use Rattle.reql_datum.specs.declared.fault.Fault.{Fault}
-use Rattle.reql_value.specs.Meant.{Given, Calls, Options, meant_of}
-use Rattle.reql_value.specs.Sequenced.{like, like_first}
-use Rattle.reql_value.specs.World.{World}
+use Rattle.reql_value_spec.specs.Meant.{Given, Calls, Options, meant_of}
+use Rattle.reql_value_spec.specs.Sequenced.{like, like_first}
+use Rattle.reql_value_spec.specs.World.{World}
 use Rattle.reql_operand.specs.Seen.{meant}
 use Rattle.reql_operand.specs.declared.value.Value.{Value}
 use Rattle.reql_apply.specs.Wrapped.{of_like}

@@ -1,19 +1,19 @@
 -- The rules of the operators, by kinds of operators.
 use Rattle.std.specs.Prelude.{take, drop, true, false}
 use Rattle.reql_datum.specs.Plain.{low, high}
-use Rattle.reql_value.specs.Arrays.{end_edit, place_edit, delete_at, splice_at, set_insert, set_operation}
-use Rattle.reql_value.specs.Coercions.{coerce_to}
-use Rattle.reql_value.specs.Meant.{Rule}
-use Rattle.reql_value.specs.Scalars.{make_array, raise, funcall, type_of, literal, constant, comparison, negation, arithmetic, epoch_time, to_epoch_time}
-use Rattle.reql_value.specs.Sequenced.{datum, array, streamed, in_groups, like_first, alike_first}
-use Rattle.reql_value.specs.Sequences.{reduce_rule, map_rule, concat_map, filter_rule, count_rule, slice_rule, counted_part, is_empty, offsets_of, contains, union_rule, range_rule}
-use Rattle.reql_value.specs.Orders.{order_by, distinct_rule}
-use Rattle.reql_value.specs.Groups.{group_rule, ungroup_rule, total_rule}
-use Rattle.reql_value.specs.Joins.{join_rule, eq_join, zip_rule}
-use Rattle.reql_value.specs.Fields.{get_field_rule, nth_rule, bracket, has_fields_rule, with_fields, by_patterns, merge_rule, keys_rule, values_rule, object_rule}
+use Rattle.reql_value_spec.specs.Arrays.{end_edit, place_edit, delete_at, splice_at, set_insert, set_operation}
+use Rattle.reql_value_spec.specs.Coercions.{coerce_to}
+use Rattle.reql_value_spec.specs.Meant.{Rule}
+use Rattle.reql_value_spec.specs.Scalars.{make_array, raise, funcall, type_of, literal, constant, comparison, negation, arithmetic, epoch_time, to_epoch_time}
+use Rattle.reql_value_spec.specs.Sequenced.{datum, array, streamed, in_groups, like_first, alike_first}
+use Rattle.reql_value_spec.specs.Sequences.{reduce_rule, map_rule, concat_map, filter_rule, count_rule, slice_rule, counted_part, is_empty, offsets_of, contains, union_rule, range_rule}
+use Rattle.reql_value_spec.specs.Orders.{order_by, distinct_rule}
+use Rattle.reql_value_spec.specs.Groups.{group_rule, ungroup_rule, total_rule}
+use Rattle.reql_value_spec.specs.Joins.{join_rule, eq_join, zip_rule}
+use Rattle.reql_value_spec.specs.Fields.{get_field_rule, nth_rule, bracket, has_fields_rule, with_fields, by_patterns, merge_rule, keys_rule, values_rule, object_rule}
 use Rattle.reql_rules.specs.Patterns.{pluck, without}
-use Rattle.reql_value.specs.Tables.{get_rule, get_all_rule, between_rule, index_list_rule, index_statuses, db_rule, told, info_of, config_of, status_rule}
-use Rattle.reql_value.specs.Table.{no_rule}
+use Rattle.reql_value_spec.specs.Tables.{get_rule, get_all_rule, between_rule, index_list_rule, index_statuses, db_rule, told, info_of, config_of, status_rule}
+use Rattle.reql_value_spec.specs.Table.{no_rule}
 use Rattle.reql_apply.specs.declared.kinds.Kind.{Kind}
 use Rattle.reql_apply.specs.declared.kinds.Kind.TheVariants as k
 use Rattle.reql_apply.specs.declared.kinds.Scalar.{Scalar}

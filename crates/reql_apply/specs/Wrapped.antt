@@ -3,8 +3,8 @@ use Rattle.std.specs.Prelude.{List, Ok}
 use Rattle.reql_datum.specs.Answer.{Answer, ◌>>=◌}
 use Rattle.reql_datum.specs.Plain.{Plain}
 use Rattle.reql_rules.specs.Lists.{array_of}
-use Rattle.reql_value.specs.Meant.{Meant, one, stream, grouped, Given, meant_of}
-use Rattle.reql_value.specs.Sequenced.{like}
+use Rattle.reql_value_spec.specs.Meant.{Meant, one, stream, grouped, Given, meant_of}
+use Rattle.reql_value_spec.specs.Sequenced.{like}
 
 abbrev pub of_datum : Answer Plain → Answer Meant
 of_datum a = a >>= λ d. Ok (one d)

@@ -1,13 +1,13 @@
 // Rules of a first argument and of those that follow it.
 ghost use Rattle.std.specs.Prelude.{map};
 ghost use Rattle.reql_datum.specs.Outcome.{Gives};
-ghost use Rattle.reql_value.specs.Fields.{with_fields as with_fields_of};
-ghost use Rattle.reql_value.specs.Groups.{group_rule as group_of};
-ghost use Rattle.reql_value.specs.Meant.{Calls, Options};
-ghost use Rattle.reql_value.specs.Orders.{order_by as order_by_of};
-ghost use Rattle.reql_value.specs.Sequenced.{like_first, alike_first};
-ghost use Rattle.reql_value.specs.Sequences.{slice_rule as slice_rule_of};
-ghost use Rattle.reql_value.specs.Tables.{get_all_rule as get_all_of, index_statuses as index_statuses_of};
+ghost use Rattle.reql_value_spec.specs.Fields.{with_fields as with_fields_of};
+ghost use Rattle.reql_value_spec.specs.Groups.{group_rule as group_of};
+ghost use Rattle.reql_value_spec.specs.Meant.{Calls, Options};
+ghost use Rattle.reql_value_spec.specs.Orders.{order_by as order_by_of};
+ghost use Rattle.reql_value_spec.specs.Sequenced.{like_first, alike_first};
+ghost use Rattle.reql_value_spec.specs.Sequences.{slice_rule as slice_rule_of};
+ghost use Rattle.reql_value_spec.specs.Tables.{get_all_rule as get_all_of, index_statuses as index_statuses_of};
 ghost use Rattle.reql_operand.specs.Called.{Answers};
 ghost use Rattle.reql_operand.specs.Seen.{meant, group as group_seen, all_shown, all_chosen};
 ghost use Rattle.reql_operand.specs.Tables.{seen};

@@ -1,6 +1,6 @@
 // The operators by kinds, each kind with rules of its own.
 ghost use Rattle.std.specs.Prelude.{◌≡◌};
-ghost use Rattle.reql_value.specs.Table.{rule_of};
+ghost use Rattle.reql_value_spec.specs.Table.{rule_of};
 ghost use Rattle.reql_apply.specs.Kinds.{kind_rule};
 
 use reql_rules::{Arith, Edit, Relate, SetOp, Total};

@@ -1,7 +1,7 @@
 // An operator applied to what its arguments gave.
 ghost use Rattle.reql_datum.specs.Outcome.{Gives};
-ghost use Rattle.reql_value.specs.Meant.{Calls};
-ghost use Rattle.reql_value.specs.World.{World as Seen};
+ghost use Rattle.reql_value_spec.specs.Meant.{Calls};
+ghost use Rattle.reql_value_spec.specs.World.{World as Seen};
 ghost use Rattle.reql_operand.specs.Called.{Answers};
 ghost use Rattle.reql_operand.specs.Seen.{meant, all_shown, all_chosen};
 ghost use Rattle.reql_operand.specs.Tables.{seen};

@@ -5,9 +5,9 @@ use Rattle.reql_datum.specs.Answer.{Answer, ◌>>=◌}
 use Rattle.reql_term.specs.Views.{Entry, values_in, documents_in, beside}
 use Rattle.reql_rules.specs.Grouping.{gather}
 use Rattle.reql_rules.specs.Lists.{Bytes}
-use Rattle.reql_value.specs.Meant.{Meant}
-use Rattle.reql_value.specs.Orders.{table_source}
-use Rattle.reql_value.specs.World.{World}
+use Rattle.reql_value_spec.specs.Meant.{Meant}
+use Rattle.reql_value_spec.specs.Orders.{table_source}
+use Rattle.reql_value_spec.specs.World.{World}
 use Rattle.reql_apply_group.specs.Grouped.{entry_grouped, groups_by, groups_beside}
 
 zipped : (es : List Entry) → map entry_grouped es ≡ zip (values_in es) (documents_in es)

@@ -5,8 +5,8 @@ use Rattle.reql_datum.specs.Plain.{Plain}
 use Rattle.reql_datum.specs.declared.fault.Fault.{Fault}
 use Rattle.reql_term.specs.Views.{Entry}
 use Rattle.reql_rules.specs.Lists.{Bytes}
-use Rattle.reql_value.specs.Joins.{having}
-use Rattle.reql_value.specs.World.{View, entries_named}
+use Rattle.reql_value_spec.specs.Joins.{having}
+use Rattle.reql_value_spec.specs.World.{View, entries_named}
 use Rattle.reql_apply_table.specs.Sources.{having as having_named}
 
 pub rows_of_key : (v : View) (name : Bytes) (es : List Entry) (k : Plain) (r : Result (List Plain) Fault) → entries_named v name ≡ Ok es

@@ -5,10 +5,10 @@ use Rattle.reql_datum.specs.Plain.{Plain}
 use Rattle.reql_datum.specs.declared.fault.Fault.{Fault}
 use Rattle.reql_rules.specs.Grouping.{group_all}
 use Rattle.reql_rules.specs.Lists.{Bytes}
-use Rattle.reql_value.specs.Called.{answer_key}
-use Rattle.reql_value.specs.Groups.{group_in}
-use Rattle.reql_value.specs.Meant.{Meant, Calls}
-use Rattle.reql_value.specs.World.{World}
+use Rattle.reql_value_spec.specs.Called.{answer_key}
+use Rattle.reql_value_spec.specs.Groups.{group_in}
+use Rattle.reql_value_spec.specs.Meant.{Meant, Calls}
+use Rattle.reql_value_spec.specs.World.{World}
 use Rattle.reql_operand.specs.Seen.{shown, all_shown}
 use Rattle.reql_operand.specs.declared.value.Arg.{Arg}
 use Rattle.reql_apply_group.specs.Grouped.{keys_value}

@@ -6,12 +6,12 @@ use Rattle.reql_datum.specs.Plain.{Plain}
 use Rattle.reql_term.specs.Views.{Entry, beside}
 use Rattle.reql_rules.specs.Grouping.{gather, or_null}
 use Rattle.reql_rules.specs.Lists.{Bytes, each, array_of}
-use Rattle.reql_value.specs.Called.{answer_key}
-use Rattle.reql_value.specs.Groups.{group_in}
-use Rattle.reql_value.specs.Meant.{Meant, Given, Calls, Options, meant_of}
-use Rattle.reql_value.specs.Orders.{table_source}
-use Rattle.reql_value.specs.Wanted.{index_text}
-use Rattle.reql_value.specs.World.{World}
+use Rattle.reql_value_spec.specs.Called.{answer_key}
+use Rattle.reql_value_spec.specs.Groups.{group_in}
+use Rattle.reql_value_spec.specs.Meant.{Meant, Given, Calls, Options, meant_of}
+use Rattle.reql_value_spec.specs.Orders.{table_source}
+use Rattle.reql_value_spec.specs.Wanted.{index_text}
+use Rattle.reql_value_spec.specs.World.{World}
 
 -- a key's value of an element, null where it is missing
 abbrev pub key_or_null : Calls → Plain → Given → Answer Plain

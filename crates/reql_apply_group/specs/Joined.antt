@@ -4,10 +4,10 @@ use Rattle.reql_datum.specs.Answer.{Answer, ◌>>=◌}
 use Rattle.reql_datum.specs.Plain.{Plain}
 use Rattle.reql_rules.specs.Joining.{eq_join_all}
 use Rattle.reql_rules.specs.Lists.{Bytes}
-use Rattle.reql_value.specs.Called.{answer_key}
-use Rattle.reql_value.specs.Joins.{having}
-use Rattle.reql_value.specs.Meant.{Given, Calls}
-use Rattle.reql_value.specs.World.{View, entries_named}
+use Rattle.reql_value_spec.specs.Called.{answer_key}
+use Rattle.reql_value_spec.specs.Joins.{having}
+use Rattle.reql_value_spec.specs.Meant.{Given, Calls}
+use Rattle.reql_value_spec.specs.World.{View, entries_named}
 
 -- the pairs of elements with the documents that have their keys
 abbrev pub joined_by : View → Bytes → Calls → Given → List Plain → Answer (List Plain)

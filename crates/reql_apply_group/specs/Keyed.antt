@@ -4,10 +4,10 @@ use Rattle.reql_datum.specs.Answer.{Answer, ◌>>=◌}
 use Rattle.reql_datum.specs.Plain.{Plain}
 use Rattle.reql_rules.specs.Totals.{total}
 use Rattle.reql_rules.specs.declared.words.Total.{Total}
-use Rattle.reql_value.specs.Called.{answer_key}
-use Rattle.reql_value.specs.Meant.{Given, Calls}
-use Rattle.reql_value.specs.Wanted.{as_sequence}
-use Rattle.reql_value.specs.World.{World}
+use Rattle.reql_value_spec.specs.Called.{answer_key}
+use Rattle.reql_value_spec.specs.Meant.{Given, Calls}
+use Rattle.reql_value_spec.specs.Wanted.{as_sequence}
+use Rattle.reql_value_spec.specs.World.{World}
 
 -- an element as it is
 abbrev pub itself : Plain → Answer Plain

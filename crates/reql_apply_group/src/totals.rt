@@ -2,10 +2,10 @@
 ghost use Rattle.reql_datum.specs.Outcome.{Gives};
 ghost use Rattle.reql_datum.specs.View.{plain};
 ghost use Rattle.reql_rules.specs.Totals.{total as total_in};
-ghost use Rattle.reql_value.specs.Called.{answer_key as answer_key_of};
-ghost use Rattle.reql_value.specs.Groups.{total_rule};
-ghost use Rattle.reql_value.specs.Meant.{Calls, Options};
-ghost use Rattle.reql_value.specs.World.{World as Seen};
+ghost use Rattle.reql_value_spec.specs.Called.{answer_key as answer_key_of};
+ghost use Rattle.reql_value_spec.specs.Groups.{total_rule};
+ghost use Rattle.reql_value_spec.specs.Meant.{Calls, Options};
+ghost use Rattle.reql_value_spec.specs.World.{World as Seen};
 ghost use Rattle.reql_operand.specs.Called.{Answers};
 ghost use Rattle.reql_operand.specs.Seen.{shown, all_shown};
 ghost use Rattle.reql_operand.specs.Tables.{seen};

@@ -3,10 +3,10 @@ ghost use Rattle.std.specs.Prelude.{◌≡◌, IfOk, Err, codes, map, is_ok, fal
 ghost use Rattle.reql_datum.specs.Outcome.{Gives};
 ghost use Rattle.reql_datum.specs.View.{plain};
 ghost use Rattle.reql_rules.specs.Grouping.{reduction as reduction_of, ungroup as ungroup_of};
-ghost use Rattle.reql_value.specs.Groups.{ungrouped as ungrouped_of, ungroup_rule};
-ghost use Rattle.reql_value.specs.Meant.{Calls, Options, meant_of};
-ghost use Rattle.reql_value.specs.Wanted.{wrong as wrong_of};
-ghost use Rattle.reql_value.specs.World.{World as Seen};
+ghost use Rattle.reql_value_spec.specs.Groups.{ungrouped as ungrouped_of, ungroup_rule};
+ghost use Rattle.reql_value_spec.specs.Meant.{Calls, Options, meant_of};
+ghost use Rattle.reql_value_spec.specs.Wanted.{wrong as wrong_of};
+ghost use Rattle.reql_value_spec.specs.World.{World as Seen};
 ghost use Rattle.reql_operand.specs.Seen.{meant, shown, all_shown, group as group_seen};
 
 use reql_datum::{Datum, Fault, Fields, Items, Memory, Name};

@@ -2,10 +2,10 @@
 use Rattle.std.proofs.Common.{◌≡◌, refl, sym, ap, ◌∙◌, List, [], ◌∷◌, length, get_or, map, Option, Some, None, option_and_then, arith}
 use Rattle.reql_datum.specs.Plain.{Plain, low, array, boolean, null, number, object, binary, time, text, high}
 use Rattle.reql_rules.specs.Types.{number_in, text_in}
-use Rattle.reql_value.specs.Fields.{bracket, bracket_by}
-use Rattle.reql_value.specs.Meant.{Given, Calls, Options}
-use Rattle.reql_value.specs.Wanted.{seen}
-use Rattle.reql_value.specs.World.{World}
+use Rattle.reql_value_spec.specs.Fields.{bracket, bracket_by}
+use Rattle.reql_value_spec.specs.Meant.{Given, Calls, Options}
+use Rattle.reql_value_spec.specs.Wanted.{seen}
+use Rattle.reql_value_spec.specs.World.{World}
 use Rattle.reql_apply_path.specs.Brackets.{bracket_at}
 
 by_kind : (v : Option Plain) (w : World) (calls : Calls) (g h : Given) (opts : Options)

@@ -4,10 +4,10 @@ use Rattle.reql_datum.specs.Answer.{Answer, ◌>>=◌}
 use Rattle.reql_datum.specs.Plain.{Plain}
 use Rattle.reql_rules.specs.Lists.{Bytes, object_of}
 use Rattle.reql_rules.specs.Merging.{merge}
-use Rattle.reql_value.specs.Called.{answer}
-use Rattle.reql_value.specs.Fields.{merged_on}
-use Rattle.reql_value.specs.Meant.{Meant, Given, Calls}
-use Rattle.reql_value.specs.Wanted.{to_object}
+use Rattle.reql_value_spec.specs.Called.{answer}
+use Rattle.reql_value_spec.specs.Fields.{merged_on}
+use Rattle.reql_value_spec.specs.Meant.{Meant, Given, Calls}
+use Rattle.reql_value_spec.specs.Wanted.{to_object}
 use Rattle.reql_apply_path.specs.Merged.{object_answered, one_merged}
 
 objects_on : (calls : Calls) (d : Plain) (gs : List Given) (r : Answer (List (Bytes × Plain)))

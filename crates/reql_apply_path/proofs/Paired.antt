@@ -7,8 +7,8 @@ use Rattle.reql_operand.proofs.Steps.{fails_on}
 use Rattle.reql_rules.specs.Faults.{misplaced}
 use Rattle.reql_rules.specs.Lists.{object_of}
 use Rattle.reql_rules.specs.Objects.{object_by}
-use Rattle.reql_value.specs.Fields.{pairs_given, named_value}
-use Rattle.reql_value.specs.Meant.{Given}
+use Rattle.reql_value_spec.specs.Fields.{pairs_given, named_value}
+use Rattle.reql_value_spec.specs.Meant.{Given}
 use Rattle.reql_apply_path.specs.Pairs.{are_pairs, paired, put_pairs, object_of_pairs}
 
 one_more : (b : Bool) (p : Given × Given) (ps : List (Given × Given)) (r : Answer (List (Given × Given))) → r ≡ (if b then Ok ps else Err misplaced)

@@ -6,10 +6,10 @@ use Rattle.reql_datum.specs.Outcome.{Fails}
 use Rattle.reql_datum.specs.Plain.{Plain}
 use Rattle.reql_datum.specs.declared.fault.Fault.{Fault}
 use Rattle.reql_operand.proofs.Steps.{fails_on}
-use Rattle.reql_value.specs.Fields.{Subject, subject, field_subject, patterns, has_fields_of, has_fields_rule, on_subject, by_patterns, with_fields}
-use Rattle.reql_value.specs.Meant.{Given, Calls, Options, meant_of}
-use Rattle.reql_value.specs.Wanted.{as_sequence}
-use Rattle.reql_value.specs.World.{World}
+use Rattle.reql_value_spec.specs.Fields.{Subject, subject, field_subject, patterns, has_fields_of, has_fields_rule, on_subject, by_patterns, with_fields}
+use Rattle.reql_value_spec.specs.Meant.{Given, Calls, Options, meant_of}
+use Rattle.reql_value_spec.specs.Wanted.{as_sequence}
+use Rattle.reql_value_spec.specs.World.{World}
 use Rattle.reql_apply_path.specs.Merged.{having_plucked}
 
 headed : {X : Type 0} (see : X → Given) (xs : List X) (x : X) → 1 ≤ length xs → x ≡ get_or xs 0 x

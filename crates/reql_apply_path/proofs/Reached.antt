@@ -8,10 +8,10 @@ use Rattle.reql_rules.specs.Faults.{out_of_bounds}
 use Rattle.reql_rules.specs.Places as places
 use Rattle.reql_rules.specs.Places.{at_place}
 use Rattle.reql_rules.specs.Types.{number_in, wanted}
-use Rattle.reql_value.specs.Meant.{Meant, Given, meant_of}
-use Rattle.reql_value.specs.Sequences.{count_elements}
-use Rattle.reql_value.specs.Wanted.{to_sequence, as_number, seen, wrong}
-use Rattle.reql_value.specs.World.{World}
+use Rattle.reql_value_spec.specs.Meant.{Meant, Given, meant_of}
+use Rattle.reql_value_spec.specs.Sequences.{count_elements}
+use Rattle.reql_value_spec.specs.Wanted.{to_sequence, as_number, seen, wrong}
+use Rattle.reql_value_spec.specs.World.{World}
 use Rattle.reql_apply_path.specs.Places.{nth, reached, from_end, counted_from_end, nth_at}
 
 past : (ds : List Plain) (n : ℕ) → nat_lt n (length ds) ≡ false → slice_get ds n ≡ None

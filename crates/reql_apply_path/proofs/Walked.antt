@@ -8,8 +8,8 @@ use Rattle.reql_datum.specs.declared.fault.Fault.{Fault}
 use Rattle.reql_operand.proofs.Steps.{fails_on}
 use Rattle.reql_rules.specs.Lists.{Bytes}
 use Rattle.reql_rules.specs.Objects.{put_each, put_new}
-use Rattle.reql_value.specs.Fields.{merged_on, named_value}
-use Rattle.reql_value.specs.Meant.{Given, Calls}
+use Rattle.reql_value_spec.specs.Fields.{merged_on, named_value}
+use Rattle.reql_value_spec.specs.Meant.{Given, Calls}
 use Rattle.reql_apply_path.specs.Merged.{one_merged}
 use Rattle.reql_apply_path.specs.Pairs.{put_pairs, put_one, paired}
 use Rattle.reql_apply_path.proofs.Merges.{merged_first}

@@ -2,11 +2,11 @@
 use Rattle.std.specs.Prelude.{ℤ, List, Option, Some, None, Err, codes}
 use Rattle.reql_datum.specs.Answer.{Answer}
 use Rattle.reql_rules.specs.Lists.{Bytes}
-use Rattle.reql_value.specs.Fields.{get_field_rule, nth_rule}
-use Rattle.reql_value.specs.Meant.{Meant, Given, Calls, Options, meant_of}
-use Rattle.reql_value.specs.Sequenced.{datum}
-use Rattle.reql_value.specs.Wanted.{wrong}
-use Rattle.reql_value.specs.World.{World}
+use Rattle.reql_value_spec.specs.Fields.{get_field_rule, nth_rule}
+use Rattle.reql_value_spec.specs.Meant.{Meant, Given, Calls, Options, meant_of}
+use Rattle.reql_value_spec.specs.Sequenced.{datum}
+use Rattle.reql_value_spec.specs.Wanted.{wrong}
+use Rattle.reql_value_spec.specs.World.{World}
 
 abbrev pub bracket_named : Option Bytes → World → Calls → List Given → Given → Options → Answer Meant
 bracket_named (Some s) w calls gs t opts = get_field_rule w calls gs opts

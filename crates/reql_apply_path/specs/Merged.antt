@@ -5,10 +5,10 @@ use Rattle.reql_datum.specs.Plain.{Plain, array, listed}
 use Rattle.reql_rules.specs.Lists.{Bytes, object_of}
 use Rattle.reql_rules.specs.Merging.{merge}
 use Rattle.reql_rules.specs.Patterns.{as_pattern, pluck, without}
-use Rattle.reql_value.specs.Called.{answer}
-use Rattle.reql_value.specs.Fields.{having, merged_on}
-use Rattle.reql_value.specs.Meant.{Given, Calls}
-use Rattle.reql_value.specs.Wanted.{to_object, as_datum}
+use Rattle.reql_value_spec.specs.Called.{answer}
+use Rattle.reql_value_spec.specs.Fields.{having, merged_on}
+use Rattle.reql_value_spec.specs.Meant.{Given, Calls}
+use Rattle.reql_value_spec.specs.Wanted.{to_object, as_datum}
 
 -- the object that an argument gives on a value
 abbrev pub object_answered : Calls → Given → Plain → Answer (List (Bytes × Plain))

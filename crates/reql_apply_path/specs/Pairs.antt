@@ -5,8 +5,8 @@ use Rattle.reql_datum.specs.Plain.{Plain}
 use Rattle.reql_rules.specs.Faults.{misplaced}
 use Rattle.reql_rules.specs.Lists.{Bytes}
 use Rattle.reql_rules.specs.Objects.{put_each, put_new, object_by}
-use Rattle.reql_value.specs.Fields.{named_value}
-use Rattle.reql_value.specs.Meant.{Given}
+use Rattle.reql_value_spec.specs.Fields.{named_value}
+use Rattle.reql_value_spec.specs.Meant.{Given}
 
 abbrev pub are_pairs : List Given → Bool
 are_pairs [] = true

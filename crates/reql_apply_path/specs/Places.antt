@@ -5,10 +5,10 @@ use Rattle.reql_datum.specs.Plain.{Plain}
 use Rattle.reql_rules.specs.Faults.{out_of_bounds}
 use Rattle.reql_rules.specs.Places as places
 use Rattle.reql_rules.specs.Places.{at_place}
-use Rattle.reql_value.specs.Meant.{Meant, Given}
-use Rattle.reql_value.specs.Sequences.{count_elements}
-use Rattle.reql_value.specs.Wanted.{to_sequence, as_number}
-use Rattle.reql_value.specs.World.{World}
+use Rattle.reql_value_spec.specs.Meant.{Meant, Given}
+use Rattle.reql_value_spec.specs.Sequences.{count_elements}
+use Rattle.reql_value_spec.specs.Wanted.{to_sequence, as_number}
+use Rattle.reql_value_spec.specs.World.{World}
 use Rattle.reql_operand.specs.Counted.{element}
 use Rattle.reql_apply_path.specs.declared.places.Place.{Place}
 use Rattle.reql_apply_path.specs.declared.places.Place.TheVariants.{FromFront, FromEnd}

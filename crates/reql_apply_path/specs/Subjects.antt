@@ -1,6 +1,6 @@
 -- What fields are taken of, as code holds it.
 use Rattle.reql_datum.specs.View.{plain}
-use Rattle.reql_value.specs.Fields as f
+use Rattle.reql_value_spec.specs.Fields as f
 use Rattle.reql_apply_path.specs.declared.subjects.Subject.{Subject}
 use Rattle.reql_apply_path.specs.declared.subjects.Subject.TheVariants as s
 

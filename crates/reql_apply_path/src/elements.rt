@@ -8,9 +8,9 @@ ghost use Rattle.reql_datum.specs.View.{plain};
 ghost use Rattle.reql_rules.specs.Faults.{type_text as type_text_of};
 ghost use Rattle.reql_rules.specs.Fields.{on_objects as on_objects_of, on_each as on_each_of};
 ghost use Rattle.reql_rules.specs.Types.{as_object as as_object_of};
-ghost use Rattle.reql_value.specs.Fields.{on_subject as on_subject_of};
-ghost use Rattle.reql_value.specs.Meant.{meant_of};
-ghost use Rattle.reql_value.specs.World.{World as Seen};
+ghost use Rattle.reql_value_spec.specs.Fields.{on_subject as on_subject_of};
+ghost use Rattle.reql_value_spec.specs.Meant.{meant_of};
+ghost use Rattle.reql_value_spec.specs.World.{World as Seen};
 ghost use Rattle.reql_operand.specs.Seen.{meant, shown};
 ghost use Rattle.reql_apply_path.specs.Subjects.{seen_subject};
 

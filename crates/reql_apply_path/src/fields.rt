@@ -2,11 +2,11 @@
 ghost use Rattle.std.specs.Prelude.{Err, codes, option_and_then};
 ghost use Rattle.reql_datum.specs.Outcome.{Gives};
 ghost use Rattle.reql_rules.specs.Types.{number_in, text_in};
-ghost use Rattle.reql_value.specs.Fields.{nth_rule as nth_rule_of, field_of as field_of_of, get_field_rule as get_field_rule_of, bracket as bracket_of};
-ghost use Rattle.reql_value.specs.Meant.{Calls, Options, meant_of};
-ghost use Rattle.reql_value.specs.Sequenced.{datum};
-ghost use Rattle.reql_value.specs.Wanted.{seen as seen_of, wrong as wrong_of};
-ghost use Rattle.reql_value.specs.World.{World as Seen};
+ghost use Rattle.reql_value_spec.specs.Fields.{nth_rule as nth_rule_of, field_of as field_of_of, get_field_rule as get_field_rule_of, bracket as bracket_of};
+ghost use Rattle.reql_value_spec.specs.Meant.{Calls, Options, meant_of};
+ghost use Rattle.reql_value_spec.specs.Sequenced.{datum};
+ghost use Rattle.reql_value_spec.specs.Wanted.{seen as seen_of, wrong as wrong_of};
+ghost use Rattle.reql_value_spec.specs.World.{World as Seen};
 ghost use Rattle.reql_operand.specs.Seen.{meant, shown, all_shown};
 ghost use Rattle.reql_operand.specs.Tables.{seen};
 ghost use Rattle.reql_apply_path.specs.Brackets.{bracket_at as bracket_at_of, bracket_named as bracket_named_of};

@@ -3,9 +3,9 @@ ghost use Rattle.std.specs.Prelude.{◌≡◌, [], IfOk, map, true};
 ghost use Rattle.reql_datum.specs.Outcome.{Gives};
 ghost use Rattle.reql_datum.specs.Plain.{text};
 ghost use Rattle.reql_datum.specs.View.{plain};
-ghost use Rattle.reql_value.specs.Fields.{keys_rule as keys_rule_of, values_rule as values_rule_of, object_rule as object_rule_of};
-ghost use Rattle.reql_value.specs.Meant.{Calls, Options};
-ghost use Rattle.reql_value.specs.World.{World as Seen};
+ghost use Rattle.reql_value_spec.specs.Fields.{keys_rule as keys_rule_of, values_rule as values_rule_of, object_rule as object_rule_of};
+ghost use Rattle.reql_value_spec.specs.Meant.{Calls, Options};
+ghost use Rattle.reql_value_spec.specs.World.{World as Seen};
 ghost use Rattle.reql_operand.specs.Seen.{shown, all_shown};
 ghost use Rattle.reql_apply_path.specs.Pairs.{are_pairs as are_pairs_of, put_pairs as put_pairs_of, put_one as put_one_of};
 

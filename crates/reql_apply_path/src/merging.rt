@@ -2,9 +2,9 @@
 ghost use Rattle.std.specs.Prelude.{◌≡◌};
 ghost use Rattle.reql_datum.specs.Outcome.{Gives};
 ghost use Rattle.reql_datum.specs.View.{plain};
-ghost use Rattle.reql_value.specs.Fields.{on_subject as on_subject_of, merge_rule as merge_rule_of};
-ghost use Rattle.reql_value.specs.Meant.{Calls, Options, meant_of};
-ghost use Rattle.reql_value.specs.World.{World as Seen};
+ghost use Rattle.reql_value_spec.specs.Fields.{on_subject as on_subject_of, merge_rule as merge_rule_of};
+ghost use Rattle.reql_value_spec.specs.Meant.{Calls, Options, meant_of};
+ghost use Rattle.reql_value_spec.specs.World.{World as Seen};
 ghost use Rattle.reql_operand.specs.Called.{Answers};
 ghost use Rattle.reql_operand.specs.Seen.{meant, shown, all_shown};
 ghost use Rattle.reql_operand.specs.Tables.{seen};

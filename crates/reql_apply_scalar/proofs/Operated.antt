@@ -10,9 +10,9 @@ use Rattle.reql_datum.specs.Arithmetic.{remainder, quotient}
 use Rattle.reql_rules.specs.Types as types
 use Rattle.reql_rules.specs.declared.words.Arith.{Arith}
 use Rattle.reql_rules.specs.declared.words.Arith.TheVariants.{Add, Sub, Mul, Div, Mod}
-use Rattle.reql_value.specs.Meant.{Given, meant_of}
-use Rattle.reql_value.specs.Scalars.{time_in}
-use Rattle.reql_value.specs.Wanted.{wrong, seen, as_number, as_text, as_array}
+use Rattle.reql_value_spec.specs.Meant.{Given, meant_of}
+use Rattle.reql_value_spec.specs.Scalars.{time_in}
+use Rattle.reql_value_spec.specs.Wanted.{wrong, seen, as_number, as_text, as_array}
 use Rattle.reql_apply_scalar.specs.declared.adding.Want.{Want}
 use Rattle.reql_apply_scalar.specs.declared.adding.Want.TheVariants.{Numbers, Texts, Arrays, OneTime, TwoTimes}
 use Rattle.reql_apply_scalar.specs.Operands.{added_to, taken_from, want_of, after, timed, operand, operands, on_operands}

@@ -7,8 +7,8 @@ use Rattle.reql_datum.specs.Plain.{Plain}
 use Rattle.reql_datum.specs.declared.fault.Fault.{Fault}
 use Rattle.reql_operand.proofs.Steps.{fails_on}
 use Rattle.reql_rules.specs.declared.words.Arith.{Arith}
-use Rattle.reql_value.specs.Meant.{Given}
-use Rattle.reql_value.specs.Wanted.{seen}
+use Rattle.reql_value_spec.specs.Meant.{Given}
+use Rattle.reql_value_spec.specs.Wanted.{seen}
 use Rattle.reql_apply_scalar.specs.declared.adding.Want.{Want}
 use Rattle.reql_apply_scalar.specs.Operands.{want_of, after, operand, operands, run, on_operands}
 

@@ -7,10 +7,10 @@ use Rattle.reql_rules.specs.Lists.{array_of}
 use Rattle.reql_rules.specs.Numbers.{arith}
 use Rattle.reql_rules.specs.declared.words.Arith.{Arith}
 use Rattle.reql_rules.specs.declared.words.Arith.TheVariants.{Add, Sub}
-use Rattle.reql_value.specs.Called.{answer}
-use Rattle.reql_value.specs.Meant.{Meant, Given, Calls}
-use Rattle.reql_value.specs.Scalars.{time_in}
-use Rattle.reql_value.specs.Wanted.{seen, as_data, as_number, as_text, as_array}
+use Rattle.reql_value_spec.specs.Called.{answer}
+use Rattle.reql_value_spec.specs.Meant.{Meant, Given, Calls}
+use Rattle.reql_value_spec.specs.Scalars.{time_in}
+use Rattle.reql_value_spec.specs.Wanted.{seen, as_data, as_number, as_text, as_array}
 use Rattle.reql_apply_scalar.specs.declared.adding.Want.{Want}
 use Rattle.reql_apply_scalar.specs.declared.adding.Want.TheVariants.{Numbers, Texts, Arrays, OneTime, TwoTimes}
 

@@ -2,10 +2,10 @@
 ghost use Rattle.std.specs.Prelude.{◌≡◌, option_map};
 ghost use Rattle.reql_datum.specs.Outcome.{Gives};
 ghost use Rattle.reql_datum.specs.View.{plain};
-ghost use Rattle.reql_value.specs.Meant.{Calls, Options};
-ghost use Rattle.reql_value.specs.Scalars.{arithmetic as arithmetic_of};
-ghost use Rattle.reql_value.specs.Wanted.{seen as seen_of};
-ghost use Rattle.reql_value.specs.World.{World as Seen};
+ghost use Rattle.reql_value_spec.specs.Meant.{Calls, Options};
+ghost use Rattle.reql_value_spec.specs.Scalars.{arithmetic as arithmetic_of};
+ghost use Rattle.reql_value_spec.specs.Wanted.{seen as seen_of};
+ghost use Rattle.reql_value_spec.specs.World.{World as Seen};
 ghost use Rattle.reql_operand.specs.Seen.{shown, all_shown};
 ghost use Rattle.reql_apply_scalar.specs.declared.adding.Want.TheVariants.{OneTime, TwoTimes};
 ghost use Rattle.reql_apply_scalar.specs.Operands.{added_to, taken_from, want_of as want_of_of, after_time as after_time_of, after as after_of, operand as operand_of, operands as operands_of, run as run_of, on_operands as on_operands_of};

@@ -1,9 +1,9 @@
 // APPEND, PREPEND, INSERT_AT, DELETE_AT, CHANGE_AT and SPLICE_AT, and arrays as sets.
 ghost use Rattle.std.specs.Prelude.{◌≡◌};
 ghost use Rattle.reql_datum.specs.Outcome.{Gives};
-ghost use Rattle.reql_value.specs.Arrays.{end_edit as end_edit_of, place_edit as place_edit_of, delete_at as delete_at_of, splice_at as splice_at_of, set_insert as set_insert_of, set_operation as set_operation_of};
-ghost use Rattle.reql_value.specs.Meant.{Calls, Options};
-ghost use Rattle.reql_value.specs.World.{World as Seen};
+ghost use Rattle.reql_value_spec.specs.Arrays.{end_edit as end_edit_of, place_edit as place_edit_of, delete_at as delete_at_of, splice_at as splice_at_of, set_insert as set_insert_of, set_operation as set_operation_of};
+ghost use Rattle.reql_value_spec.specs.Meant.{Calls, Options};
+ghost use Rattle.reql_value_spec.specs.World.{World as Seen};
 ghost use Rattle.reql_operand.specs.Seen.{all_shown};
 
 use reql_datum::{Datum, Fault, Items};

@@ -7,10 +7,10 @@ ghost use Rattle.reql_datum.specs.Plain.{null};
 ghost use Rattle.reql_datum.specs.View.{plain};
 ghost use Rattle.reql_rules.specs.Lists.{array_of as array_of_of};
 ghost use Rattle.reql_rules.specs.Faults.{cannot_coerce as cannot_coerce_of, unshowable as unshowable_of};
-ghost use Rattle.reql_value.specs.Coercions.{json_text as json_text_of, to_string as to_string_of, datum_coerced as datum_coerced_of, sequence_coerced as sequence_coerced_of, coerced as coerced_of, coerce_to as coerce_to_of};
-ghost use Rattle.reql_value.specs.Meant.{Calls, Options, meant_of, name_of, row_name};
-ghost use Rattle.reql_value.specs.Wanted.{by_rows};
-ghost use Rattle.reql_value.specs.World.{World as Seen};
+ghost use Rattle.reql_value_spec.specs.Coercions.{json_text as json_text_of, to_string as to_string_of, datum_coerced as datum_coerced_of, sequence_coerced as sequence_coerced_of, coerced as coerced_of, coerce_to as coerce_to_of};
+ghost use Rattle.reql_value_spec.specs.Meant.{Calls, Options, meant_of, name_of, row_name};
+ghost use Rattle.reql_value_spec.specs.Wanted.{by_rows};
+ghost use Rattle.reql_value_spec.specs.World.{World as Seen};
 ghost use Rattle.reql_operand.specs.Seen.{meant, shown, all_shown};
 ghost use Rattle.reql_operand.specs.Tables.{seen};
 

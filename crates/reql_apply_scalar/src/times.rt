@@ -3,9 +3,9 @@ ghost use Rattle.std.specs.Prelude.{◌≡◌, pos};
 ghost use Rattle.reql_datum.specs.Outcome.{Gives};
 ghost use Rattle.reql_datum.specs.Plain.{time};
 ghost use Rattle.reql_datum.specs.View.{plain};
-ghost use Rattle.reql_value.specs.Meant.{Calls, Options};
-ghost use Rattle.reql_value.specs.Scalars.{epoch_time as epoch_time_of, to_epoch_time as to_epoch_time_of};
-ghost use Rattle.reql_value.specs.World.{World as Seen};
+ghost use Rattle.reql_value_spec.specs.Meant.{Calls, Options};
+ghost use Rattle.reql_value_spec.specs.Scalars.{epoch_time as epoch_time_of, to_epoch_time as to_epoch_time_of};
+ghost use Rattle.reql_value_spec.specs.World.{World as Seen};
 ghost use Rattle.reql_operand.specs.Seen.{all_shown};
 
 use reql_datum::{Datum, Fault, Moment, Whole};

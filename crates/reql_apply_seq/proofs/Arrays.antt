@@ -3,10 +3,10 @@ use Rattle.std.proofs.Common.{◌≡◌, refl, sym, ap, List, [], ◌∷◌, Ok}
 use Rattle.std.specs.List.{list_all}
 use Rattle.reql_datum.specs.Plain.{Plain}
 use Rattle.reql_rules.specs.Lists.{each, joined}
-use Rattle.reql_value.specs.Meant.{Meant, given, Calls, Options}
-use Rattle.reql_value.specs.Sequences.{is_array, are_arrays, union_rule}
-use Rattle.reql_value.specs.Wanted.{as_sequence}
-use Rattle.reql_value.specs.World.{World}
+use Rattle.reql_value_spec.specs.Meant.{Meant, given, Calls, Options}
+use Rattle.reql_value_spec.specs.Sequences.{is_array, are_arrays, union_rule}
+use Rattle.reql_value_spec.specs.Wanted.{as_sequence}
+use Rattle.reql_value_spec.specs.World.{World}
 use Rattle.reql_operand.specs.Seen.{meant, shown, all_shown}
 use Rattle.reql_operand.specs.declared.value.Value.{Value}
 use Rattle.reql_operand.specs.declared.value.Value.TheVariants as v

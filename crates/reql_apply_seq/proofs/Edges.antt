@@ -4,10 +4,10 @@ use Rattle.reql_datum.specs.Outcome.{Gives}
 use Rattle.reql_datum.specs.Plain.{Plain}
 use Rattle.reql_datum.specs.declared.fault.Fault.{Fault}
 use Rattle.reql_rules.specs.Places.{edge, sliced}
-use Rattle.reql_value.specs.Meant.{Meant, Given, Calls, Options}
-use Rattle.reql_value.specs.Sequenced.{alike_first}
-use Rattle.reql_value.specs.Sequences.{slice_rule}
-use Rattle.reql_value.specs.World.{World}
+use Rattle.reql_value_spec.specs.Meant.{Meant, Given, Calls, Options}
+use Rattle.reql_value_spec.specs.Sequenced.{alike_first}
+use Rattle.reql_value_spec.specs.Sequences.{slice_rule}
+use Rattle.reql_value_spec.specs.World.{World}
 use Rattle.reql_operand.specs.Seen.{shown, all_shown}
 use Rattle.reql_operand.specs.declared.value.Arg.{Arg}
 use Rattle.reql_apply_seq.specs.Slicing.{end_from, end_among}

@@ -6,8 +6,8 @@ use Rattle.reql_datum.specs.Plain.{Plain}
 use Rattle.reql_datum.specs.View.{plain}
 use Rattle.reql_term.specs.Views.{Entry, beside, directed, documents_in, entries_between, entries_of, values_in}
 use Rattle.reql_rules.specs.Lists.{Bytes}
-use Rattle.reql_value.specs.Meant.{Bounds, bounded}
-use Rattle.reql_value.specs.World.{World, View, view_at, entries_named}
+use Rattle.reql_value_spec.specs.Meant.{Bounds, bounded}
+use Rattle.reql_value_spec.specs.World.{World, View, view_at, entries_named}
 use Rattle.reql_apply_seq.specs.Orders.{entries_of_view, spanned, span_of_view, span_entries, row_of, rows_of}
 use Rattle.reql_apply_seq.specs.declared.spans.Span.{Span}
 

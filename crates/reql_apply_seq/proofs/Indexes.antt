@@ -4,8 +4,8 @@ use Rattle.reql_datum.specs.Answer.{Answer, ◌>>=◌}
 use Rattle.reql_term.specs.Views.{Entry, values_in}
 use Rattle.reql_rules.specs.Lists.{Bytes}
 use Rattle.reql_rules.specs.Sorting.{distinct}
-use Rattle.reql_value.specs.Meant.{Meant, one, stream, selection, row, table, grouped, database, callable}
-use Rattle.reql_value.specs.World.{World, View, view_at, entries_named}
+use Rattle.reql_value_spec.specs.Meant.{Meant, one, stream, selection, row, table, grouped, database, callable}
+use Rattle.reql_value_spec.specs.World.{World, View, view_at, entries_named}
 use Rattle.reql_apply_seq.specs.Indexes.{named_values, values_any, distinct_values, distinct_named}
 
 source_on : (a : Answer (List Entry))

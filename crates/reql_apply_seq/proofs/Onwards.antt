@@ -6,10 +6,10 @@ use Rattle.reql_datum.specs.Plain.{Plain}
 use Rattle.reql_datum.specs.declared.fault.Fault.{Fault}
 use Rattle.reql_rules.specs.Lists.{Bytes}
 use Rattle.reql_rules.specs.Types.{text_in}
-use Rattle.reql_value.specs.Meant.{Meant, Given, Calls, meant_of}
-use Rattle.reql_value.specs.Orders.{is_down, key_in, order_in}
-use Rattle.reql_value.specs.Wanted.{value_in}
-use Rattle.reql_value.specs.World.{World}
+use Rattle.reql_value_spec.specs.Meant.{Meant, Given, Calls, meant_of}
+use Rattle.reql_value_spec.specs.Orders.{is_down, key_in, order_in}
+use Rattle.reql_value_spec.specs.Wanted.{value_in}
+use Rattle.reql_value_spec.specs.World.{World}
 use Rattle.reql_apply_seq.specs.Orders.{ordered_by}
 
 pub then_gives : {X Y A : Type 0} (view : X → Y) (r : Result X Fault) (a : Answer A) (x : A) (k : A → Answer Y) → a ≡ Ok x → Gives view r (k x) → Gives view r (a >>= k)

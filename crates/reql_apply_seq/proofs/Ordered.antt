@@ -6,9 +6,9 @@ use Rattle.reql_term.specs.Views.{Entry}
 use Rattle.reql_rules.specs.Lists.{each}
 use Rattle.reql_rules.specs.Sorting.{Keyed, keys_from, with_keys, keyed_order, elements, sorted}
 use Rattle.reql_rules.proofs.Stable.{map_sorted}
-use Rattle.reql_value.specs.Meant.{selection, some_rows, Given, Calls}
-use Rattle.reql_value.specs.Orders.{is_down, key_at, entry_keyed, order_by_index}
-use Rattle.reql_value.specs.World.{World}
+use Rattle.reql_value_spec.specs.Meant.{selection, some_rows, Given, Calls}
+use Rattle.reql_value_spec.specs.Orders.{is_down, key_at, entry_keyed, order_by_index}
+use Rattle.reql_value_spec.specs.World.{World}
 use Rattle.reql_operand.specs.Seen.{shown, all_shown}
 use Rattle.reql_operand.specs.declared.value.Arg.{Arg}
 use Rattle.reql_operand.specs.declared.value.Arg.TheVariants as a

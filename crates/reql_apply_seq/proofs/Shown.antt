@@ -1,7 +1,7 @@
 -- What stands at a place among arguments.
 use Rattle.std.proofs.Common.{◌≡◌, ℕ, List, slice_get, option_map}
 use Rattle.std.proofs.lemmas.Option.{slice_get-map}
-use Rattle.reql_value.specs.World.{World}
+use Rattle.reql_value_spec.specs.World.{World}
 use Rattle.reql_operand.specs.Seen.{shown, all_shown}
 use Rattle.reql_operand.specs.declared.value.Arg.{Arg}
 

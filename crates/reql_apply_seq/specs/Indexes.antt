@@ -7,10 +7,10 @@ use Rattle.reql_term.specs.Views.{Entry, entries_of, values_in}
 use Rattle.reql_rules.specs.Faults.{misplaced_order}
 use Rattle.reql_rules.specs.Lists.{Bytes}
 use Rattle.reql_rules.specs.Sorting.{distinct}
-use Rattle.reql_value.specs.Meant.{Meant, stream, table, Given, Options, meant_of}
-use Rattle.reql_value.specs.Orders.{table_source, distinct_in}
-use Rattle.reql_value.specs.Wanted.{as_sequence, index_text}
-use Rattle.reql_value.specs.World.{World, View, view_at, entries_named}
+use Rattle.reql_value_spec.specs.Meant.{Meant, stream, table, Given, Options, meant_of}
+use Rattle.reql_value_spec.specs.Orders.{table_source, distinct_in}
+use Rattle.reql_value_spec.specs.Wanted.{as_sequence, index_text}
+use Rattle.reql_value_spec.specs.World.{World, View, view_at, entries_named}
 
 -- the entries of an index, as a view is asked for them
 abbrev pub entries_by : View → Option Bytes → Option (List Entry)

@@ -11,11 +11,11 @@ use Rattle.reql_rules.specs.Faults.{misplaced}
 use Rattle.reql_rules.specs.Lists.{Bytes, array_of, each}
 use Rattle.reql_rules.specs.Sorting.{keyed_order, elements, order_all, sorted}
 use Rattle.reql_rules.specs.Types.{wanted, items_in}
-use Rattle.reql_value.specs.Meant.{Bounds, bounded, Meant, selection, some_rows, Given, Calls, meant_of}
-use Rattle.reql_value.specs.Orders.{is_down, key_at, entry_keyed, index_given, order_in}
-use Rattle.reql_value.specs.Sequenced.{in_order}
-use Rattle.reql_value.specs.Wanted.{as_sequence}
-use Rattle.reql_value.specs.World.{World, View, view_at, entries_named}
+use Rattle.reql_value_spec.specs.Meant.{Bounds, bounded, Meant, selection, some_rows, Given, Calls, meant_of}
+use Rattle.reql_value_spec.specs.Orders.{is_down, key_at, entry_keyed, index_given, order_in}
+use Rattle.reql_value_spec.specs.Sequenced.{in_order}
+use Rattle.reql_value_spec.specs.Wanted.{as_sequence}
+use Rattle.reql_value_spec.specs.World.{World, View, view_at, entries_named}
 use Rattle.reql_operand.specs.declared.value.Arg.{Arg}
 use Rattle.reql_operand.specs.declared.value.Arg.TheVariants as a
 use Rattle.reql_apply_seq.specs.declared.spans.Span.{Span}

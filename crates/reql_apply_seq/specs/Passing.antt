@@ -3,8 +3,8 @@ use Rattle.std.specs.Prelude.{ℕ, ◌+◌, length, List, Bool, ◌||◌, ◌&&�
 use Rattle.reql_datum.specs.Answer.{Answer, ◌>>=◌}
 use Rattle.reql_datum.specs.Plain.{Plain}
 use Rattle.reql_rules.specs.Places.{counted_as}
-use Rattle.reql_value.specs.Meant.{Meant, Given, meant_of}
-use Rattle.reql_value.specs.Sequenced.{like}
+use Rattle.reql_value_spec.specs.Meant.{Meant, Given, meant_of}
+use Rattle.reql_value_spec.specs.Sequenced.{like}
 
 abbrev pub counting : Answer (List Plain) → Answer Plain
 counting a = a >>= λ es. Ok (counted_as (length es))

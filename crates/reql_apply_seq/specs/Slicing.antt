@@ -2,8 +2,8 @@
 use Rattle.std.specs.Prelude.{ℕ, ℤ, pos, List, length, Option, Some, None, Ok}
 use Rattle.reql_datum.specs.Answer.{Answer, ◌>>=◌}
 use Rattle.reql_datum.specs.Plain.{Plain}
-use Rattle.reql_value.specs.Meant.{Meant, Given, meant_of}
-use Rattle.reql_value.specs.Sequenced.{alike}
+use Rattle.reql_value_spec.specs.Meant.{Meant, Given, meant_of}
+use Rattle.reql_value_spec.specs.Sequenced.{alike}
 
 -- one that is given, or that after all of so many
 abbrev pub end_from : ℕ → Option ℤ → ℤ

@@ -3,10 +3,10 @@ use Rattle.std.specs.Prelude.{◌≡◌, ℕ, List, length, drop, nat_eq, Bool, 
 use Rattle.reql_datum.specs.Answer.{Answer, ◌>>=◌}
 use Rattle.reql_datum.specs.Plain.{Plain}
 use Rattle.reql_rules.specs.Lists.{array_of}
-use Rattle.reql_value.specs.Meant.{Meant, one, stream, selection, some_rows, Given}
-use Rattle.reql_value.specs.Sequenced.{alike}
-use Rattle.reql_value.specs.Wanted.{as_sequence}
-use Rattle.reql_value.specs.World.{World}
+use Rattle.reql_value_spec.specs.Meant.{Meant, one, stream, selection, some_rows, Given}
+use Rattle.reql_value_spec.specs.Sequenced.{alike}
+use Rattle.reql_value_spec.specs.Wanted.{as_sequence}
+use Rattle.reql_value_spec.specs.World.{World}
 use Rattle.reql_operand.specs.Seen.{documents_at}
 use Rattle.reql_operand.specs.declared.value.Value.{Value}
 use Rattle.reql_operand.specs.declared.value.Value.TheVariants as v

@@ -1,8 +1,8 @@
 // DISTINCT.
 ghost use Rattle.std.specs.Prelude.{option_map};
 ghost use Rattle.reql_datum.specs.Outcome.{Gives};
-ghost use Rattle.reql_value.specs.Meant.{Calls, meant_of};
-ghost use Rattle.reql_value.specs.Orders.{distinct_in as distinct_in_of, distinct_rule};
+ghost use Rattle.reql_value_spec.specs.Meant.{Calls, meant_of};
+ghost use Rattle.reql_value_spec.specs.Orders.{distinct_in as distinct_in_of, distinct_rule};
 ghost use Rattle.reql_operand.specs.Seen.{meant, shown, all_shown, all_chosen};
 ghost use Rattle.reql_operand.specs.Tables.{seen};
 ghost use Rattle.reql_apply_seq.specs.Sources.{elements};

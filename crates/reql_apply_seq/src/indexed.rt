@@ -2,7 +2,7 @@
 ghost use Rattle.std.specs.Prelude.{Ok};
 ghost use Rattle.reql_datum.specs.Outcome.{Gives};
 ghost use Rattle.reql_term.specs.Views.{entries_in};
-ghost use Rattle.reql_value.specs.World.{entries_named};
+ghost use Rattle.reql_value_spec.specs.World.{entries_named};
 ghost use Rattle.reql_operand.specs.Seen.{meant};
 ghost use Rattle.reql_operand.specs.Tables.{view, seen};
 ghost use Rattle.reql_apply_seq.specs.Indexes.{entries_by, entries_any, named, values_any, named_values as named_values_of, table_values as table_values_of};

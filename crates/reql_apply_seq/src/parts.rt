@@ -2,9 +2,9 @@
 ghost use Rattle.std.specs.Prelude.{take, drop, length, nat_eq, Ok};
 ghost use Rattle.reql_datum.specs.Outcome.{Gives};
 ghost use Rattle.reql_datum.specs.View.{plain};
-ghost use Rattle.reql_value.specs.Meant.{Calls, Options, meant_of};
-ghost use Rattle.reql_value.specs.Sequenced.{alike as alike_of, alike_first};
-ghost use Rattle.reql_value.specs.Sequences.{counted_part, is_empty as is_empty_of};
+ghost use Rattle.reql_value_spec.specs.Meant.{Calls, Options, meant_of};
+ghost use Rattle.reql_value_spec.specs.Sequenced.{alike as alike_of, alike_first};
+ghost use Rattle.reql_value_spec.specs.Sequences.{counted_part, is_empty as is_empty_of};
 ghost use Rattle.reql_operand.specs.Seen.{meant, shown, all_shown};
 ghost use Rattle.reql_operand.specs.Tables.{seen};
 ghost use Rattle.reql_apply_seq.specs.Sources.{elements, HasRowsOf, is_none};

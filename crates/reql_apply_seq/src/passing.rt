@@ -3,10 +3,10 @@ ghost use Rattle.std.specs.Prelude.{◌≡◌, ◌<◌, ◌+◌, ◌^◌, if◌t
 ghost use Rattle.reql_datum.specs.Outcome.{Gives};
 ghost use Rattle.reql_datum.specs.View.{plain};
 ghost use Rattle.reql_rules.specs.Mapping.{passing as passing_of, some_pass as some_pass_of};
-ghost use Rattle.reql_value.specs.Called.{passes as passes_of};
-ghost use Rattle.reql_value.specs.Meant.{Calls, Options};
-ghost use Rattle.reql_value.specs.Sequences.{contains as contains_rule, all_contained as all_contained_of};
-ghost use Rattle.reql_value.specs.World.{World as Seen};
+ghost use Rattle.reql_value_spec.specs.Called.{passes as passes_of};
+ghost use Rattle.reql_value_spec.specs.Meant.{Calls, Options};
+ghost use Rattle.reql_value_spec.specs.Sequences.{contains as contains_rule, all_contained as all_contained_of};
+ghost use Rattle.reql_value_spec.specs.World.{World as Seen};
 ghost use Rattle.reql_operand.specs.Called.{Answers};
 ghost use Rattle.reql_operand.specs.Seen.{shown, all_shown};
 ghost use Rattle.reql_operand.specs.Tables.{seen};

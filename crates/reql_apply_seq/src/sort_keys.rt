@@ -2,10 +2,10 @@
 ghost use Rattle.std.specs.Prelude.{◌≡◌, ◌++◌, ◌∷◌, IfOk, map};
 ghost use Rattle.reql_datum.specs.Outcome.{Gives};
 ghost use Rattle.reql_datum.specs.View.{plain};
-ghost use Rattle.reql_value.specs.Called.{answer_key as answer_key_of, constant_key as constant_key_of};
-ghost use Rattle.reql_value.specs.Meant.{Calls};
-ghost use Rattle.reql_value.specs.Orders.{is_down, key_in, key_at as key_at_of};
-ghost use Rattle.reql_value.specs.World.{World as Seen};
+ghost use Rattle.reql_value_spec.specs.Called.{answer_key as answer_key_of, constant_key as constant_key_of};
+ghost use Rattle.reql_value_spec.specs.Meant.{Calls};
+ghost use Rattle.reql_value_spec.specs.Orders.{is_down, key_in, key_at as key_at_of};
+ghost use Rattle.reql_value_spec.specs.World.{World as Seen};
 ghost use Rattle.reql_operand.specs.Called.{Answers};
 ghost use Rattle.reql_operand.specs.Seen.{meant, shown, key as key_seen, all_shown};
 ghost use Rattle.reql_apply_seq.specs.Orders.{is_falling};

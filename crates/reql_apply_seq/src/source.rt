@@ -3,12 +3,12 @@ ghost use Rattle.std.specs.Prelude.{◌≡◌, List, Ok, IfOk, IfSome, length, t
 ghost use Rattle.reql_datum.specs.Outcome.{Gives};
 ghost use Rattle.reql_datum.specs.Plain.{Plain};
 ghost use Rattle.reql_rules.specs.Places.{cut as cut_of};
-ghost use Rattle.reql_value.specs.Meant.{Meant, selection, table as table_of, meant_of};
-ghost use Rattle.reql_value.specs.Wanted.{to_sequence as to_sequence_of, as_sequence as as_sequence_of};
+ghost use Rattle.reql_value_spec.specs.Meant.{Meant, selection, table as table_of, meant_of};
+ghost use Rattle.reql_value_spec.specs.Wanted.{to_sequence as to_sequence_of, as_sequence as as_sequence_of};
 ghost use Rattle.reql_operand.specs.Seen.{meant, shown, slice as slice_of, left_of, documents_at};
 ghost use Rattle.reql_operand.specs.Tables.{seen};
-ghost use Rattle.reql_value.specs.Sequenced.{alike};
-ghost use Rattle.reql_value.specs.World.{World as Seen};
+ghost use Rattle.reql_value_spec.specs.Sequenced.{alike};
+ghost use Rattle.reql_value_spec.specs.World.{World as Seen};
 ghost use Rattle.reql_apply_seq.specs.Sources.{elements, IsOf, HasRowsOf};
 
 use reql_datum::{Fault, Items, Memory};

@@ -4,7 +4,7 @@ use Rattle.reql_datum.specs.Answer.{Answer}
 use Rattle.reql_datum.specs.Plain.{Plain, low, array, boolean, null, number, object, binary, time, text, high}
 use Rattle.reql_rules.specs.Lists.{Bytes}
 use Rattle.reql_rules.specs.Types.{text_in}
-use Rattle.reql_value.specs.Tables.{named_database}
+use Rattle.reql_value_spec.specs.Tables.{named_database}
 use Rattle.reql_apply_table.specs.Told.{by_text}
 
 pub named_by_text : (o : Option Plain) → named_database o ≡ by_text (option_and_then text_in o)

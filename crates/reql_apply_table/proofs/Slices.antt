@@ -9,9 +9,9 @@ use Rattle.reql_term.specs.Views.{Document, Entry, all_of, documents_in, primary
 use Rattle.reql_term.specs.declared.range.Range.{Range}
 use Rattle.reql_operand.specs.Seen.{documents_of_entries, documents_of_view, documents_at}
 use Rattle.reql_rules.specs.Lists.{Bytes}
-use Rattle.reql_value.specs.World.{World, View, view_at, there, entries_named}
-use Rattle.reql_value.specs.Meant.{Bounds, bounded, slice_between, Meant, one, stream, selection, row, table, grouped, database, callable}
-use Rattle.reql_value.specs.Wanted.{to_table}
+use Rattle.reql_value_spec.specs.World.{World, View, view_at, there, entries_named}
+use Rattle.reql_value_spec.specs.Meant.{Bounds, bounded, slice_between, Meant, one, stream, selection, row, table, grouped, database, callable}
+use Rattle.reql_value_spec.specs.Wanted.{to_table}
 use Rattle.reql_apply_table.specs.Sources.{found, sliced}
 
 pub slice_of : (r : Range) (o : Option (List Entry)) → r.down ≡ false → documents_of_entries (option_map (ranged r) o) ≡ documents_in (ranged r (unwrap_or o []))

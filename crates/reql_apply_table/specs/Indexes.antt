@@ -4,10 +4,10 @@ use Rattle.reql_datum.specs.Answer.{Answer, ◌>>=◌}
 use Rattle.reql_datum.specs.Members.{find}
 use Rattle.reql_datum.specs.Plain.{Plain, text}
 use Rattle.reql_rules.specs.Lists.{Bytes, each}
-use Rattle.reql_value.specs.Meant.{Given}
-use Rattle.reql_value.specs.Tables.{status_of, index_names, or_all}
-use Rattle.reql_value.specs.Wanted.{as_text}
-use Rattle.reql_value.specs.World.{View}
+use Rattle.reql_value_spec.specs.Meant.{Given}
+use Rattle.reql_value_spec.specs.Tables.{status_of, index_names, or_all}
+use Rattle.reql_value_spec.specs.Wanted.{as_text}
+use Rattle.reql_value_spec.specs.World.{View}
 
 abbrev pub and_text : Plain → List Bytes → List Bytes
 and_text (text s) ss = s ∷ ss

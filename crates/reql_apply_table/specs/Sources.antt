@@ -10,10 +10,10 @@ use Rattle.reql_memory.specs.Sorted.{find_by}
 use Rattle.reql_term.specs.Views.{Entry, all_of, beside, documents_in, entries_of}
 use Rattle.reql_rules.specs.Faults.{no_index}
 use Rattle.reql_rules.specs.Lists.{Bytes, each}
-use Rattle.reql_value.specs.Meant.{Bounds, bounded, slice_between, Meant, Given, Options, selection, row, some_rows}
-use Rattle.reql_value.specs.Tables.{key_if, may_bound, index_or_key, entries_by}
-use Rattle.reql_value.specs.Wanted.{as_datum, as_data, index_text, left_is_open, right_is_open}
-use Rattle.reql_value.specs.World.{View, entries_named}
+use Rattle.reql_value_spec.specs.Meant.{Bounds, bounded, slice_between, Meant, Given, Options, selection, row, some_rows}
+use Rattle.reql_value_spec.specs.Tables.{key_if, may_bound, index_or_key, entries_by}
+use Rattle.reql_value_spec.specs.Wanted.{as_datum, as_data, index_text, left_is_open, right_is_open}
+use Rattle.reql_value_spec.specs.World.{View, entries_named}
 
 -- the entries of an index, or of the primary order; none where there is no such index
 abbrev pub entries_at : View → Option Bytes → List Entry

@@ -4,7 +4,7 @@ use Rattle.reql_datum.specs.Answer.{Answer}
 use Rattle.reql_rules.specs.Admin as admin
 use Rattle.reql_rules.specs.Faults.{misplaced}
 use Rattle.reql_rules.specs.Lists.{Bytes}
-use Rattle.reql_value.specs.Meant.{Meant, database}
+use Rattle.reql_value_spec.specs.Meant.{Meant, database}
 use Rattle.reql_apply_table.specs.declared.admin.About.{About}
 
 abbrev pub about : About → List Bytes → admin.About

@@ -10,10 +10,10 @@ use Rattle.reql_answer.specs.Body.{Answer, Stamped, array_of, numbers, whole}
 use Rattle.reql_datum.specs.View.{plain}
 use Rattle.reql_answer.specs.Ending.{ending, end_text}
 use Rattle.reql_answer.proofs.Ended.{ending_spelled}
-use Rattle.reql_talk.specs.Meant.{shown_of}
-use Rattle.reql_talk.specs.declared.answered.Shown.{Shown}
-use Rattle.reql_story.specs.Requests as story
-use Rattle.reql_story.specs.Bodies.{is_united, body, told}
+use Rattle.reql_session_api.specs.Meant.{shown_of}
+use Rattle.reql_session_api.specs.declared.answered.Shown.{Shown}
+use Rattle.reql_session_spec.specs.Requests as story
+use Rattle.reql_session_spec.specs.Bodies.{is_united, body, told}
 use Rattle.reql_bodies.specs.Parts.{start_text, numbers_text, places_of, stamps_of, items_shown, front_text}
 
 -- ---- numbers

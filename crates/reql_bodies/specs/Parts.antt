@@ -4,8 +4,8 @@ use Rattle.serde_json.specs.Data as json
 use Rattle.serde_json.specs.Written.{comma_if}
 use Rattle.reql_datum.specs.View.{plain}
 use Rattle.reql_json.specs.Showing.{shown}
-use Rattle.reql_story.specs.Bodies.{is_united}
-use Rattle.reql_talk.specs.declared.answered.Shown.{Shown}
+use Rattle.reql_session_spec.specs.Bodies.{is_united}
+use Rattle.reql_session_api.specs.declared.answered.Shown.{Shown}
 
 -- where there are no notes
 abbrev pub start_text : List ℕ

@@ -2,16 +2,16 @@
 ghost use Rattle.std.specs.Prelude.{◌≡◌, List, ◌++◌, option_map, IfOk, OnOk, map, false};
 ghost use Rattle.serde_json.specs.Written.{compact_text};
 ghost use Rattle.reql_answer.specs.Body.{array_of, stamped_by};
-ghost use Rattle.reql_story.specs.Requests.{Arm, Batch};
-ghost use Rattle.reql_story.specs.Bodies.{body};
-ghost use Rattle.reql_story.specs.Bodies as texts;
-ghost use Rattle.reql_talk.specs.Meant.{shown_of};
+ghost use Rattle.reql_session_spec.specs.Requests.{Arm, Batch};
+ghost use Rattle.reql_session_spec.specs.Bodies.{body};
+ghost use Rattle.reql_session_spec.specs.Bodies as texts;
+ghost use Rattle.reql_session_api.specs.Meant.{shown_of};
 ghost use Rattle.reql_bodies.specs.Parts.{numbers_text, places_of, stamps_of, items_shown, arms_text, front_text};
 
 use reql_answer::{Stamp, write_end};
 use reql_datum::Memory;
+use reql_session_api::Shown;
 use reql_spell::{write_comma, write_document, write_number};
-use reql_talk::Shown;
 use std::alloc::{AllocError, Global};
 
 // The bytes that are taken for a batch at first.

@@ -2,17 +2,17 @@
 ghost use Rattle.std.specs.Prelude.{◌≡◌, nat_lt, length, option_map, IfOk, string_bytes};
 ghost use Rattle.reql_answer.specs.Body.{stamped_by};
 ghost use Rattle.reql_answer.specs.declared.error.ErrorType.TheVariants as errors;
-ghost use Rattle.reql_story.specs.Requests.{Answer, Failed};
-ghost use Rattle.reql_story.specs.Bodies.{body};
-ghost use Rattle.reql_story.specs.Bodies as texts;
-ghost use Rattle.reql_story.specs.Tasks.{Talk, seen_in};
-ghost use Rattle.reql_story.specs.Tasks as tasks;
+ghost use Rattle.reql_session_spec.specs.Requests.{Answer, Failed};
+ghost use Rattle.reql_session_spec.specs.Bodies.{body};
+ghost use Rattle.reql_session_spec.specs.Bodies as texts;
+ghost use Rattle.reql_session_spec.specs.Tasks.{Talk, seen_in};
+ghost use Rattle.reql_session_spec.specs.Tasks as tasks;
 
 use crate::refusals::failed;
 use reql_answer::{ErrorType, Stamp};
 use reql_datum::Memory;
-use reql_law::Limits;
-use reql_story::Planning;
+use reql_session_spec::Planning;
+use reql_table_spec::Limits;
 use std::alloc::{AllocError, Global};
 
 /// Whether a body is longer than a body of an answer may be.

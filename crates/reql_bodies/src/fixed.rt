@@ -1,7 +1,7 @@
 // The bodies that are always the same.
 ghost use Rattle.std.specs.Prelude.{◌≡◌};
-ghost use Rattle.reql_story.specs.Requests.{Waited, Info, Internal};
-ghost use Rattle.reql_story.specs.Bodies.{body};
+ghost use Rattle.reql_session_spec.specs.Requests.{Waited, Info, Internal};
+ghost use Rattle.reql_session_spec.specs.Bodies.{body};
 
 /// The body of the answer to NOREPLY_WAIT.
 pub const WAITED: &[u8] = b"{\"n\":[],\"r\":[],\"t\":4}";
@@ -25,7 +25,7 @@ pub fn info() -> &'static [u8]
 }
 
 /// The answer where memory is wanted, which takes none.
-#[tactic(auto, unfolding(reql_story::specs::Bodies::body))]
+#[tactic(auto, unfolding(reql_session_spec::specs::Bodies::body))]
 pub fn internal() -> &'static [u8]
     ensures { result.now ≡ body Internal }
 {

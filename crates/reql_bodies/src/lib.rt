@@ -1,4 +1,4 @@
-//! The bodies of a session's answers, as reql_story defines them, each written once and with no JSON value made for it.
+//! The bodies of a session's answers, as reql_session_spec defines them, each written once and with no JSON value made for it.
 #![tactic(auto)]
 
 mod batches;

@@ -2,16 +2,16 @@
 ghost use Rattle.std.specs.Prelude.{◌≡◌, None, option_map, IfOk, string_bytes};
 ghost use Rattle.reql_answer.specs.Body.{stamped_by};
 ghost use Rattle.reql_answer.specs.declared.error.ErrorType.TheVariants as errors;
-ghost use Rattle.reql_story.specs.Requests.{Client, Compile, Failed};
-ghost use Rattle.reql_story.specs.Bodies.{body};
-ghost use Rattle.reql_story.specs.Bodies as texts;
+ghost use Rattle.reql_session_spec.specs.Requests.{Client, Compile, Failed};
+ghost use Rattle.reql_session_spec.specs.Bodies.{body};
+ghost use Rattle.reql_session_spec.specs.Bodies as texts;
 
 use reql_answer::{ErrorType, Stamp, fault, refusal};
 use reql_datum::Memory;
 use std::alloc::{AllocError, Global};
 
 /// The answer to what a client may not ask for.
-#[tactic(auto, unfolding(reql_story::specs::Bodies::body))]
+#[tactic(auto, unfolding(reql_session_spec::specs::Bodies::body))]
 pub fn client(alloc: Global, why: &str) -> Result<Vec<u8>, Memory>
     ensures { IfOk result (λ b. b.items ≡ body (Client why.now)) }
 {
@@ -19,7 +19,7 @@ pub fn client(alloc: Global, why: &str) -> Result<Vec<u8>, Memory>
 }
 
 /// The answer to what can't be compiled.
-#[tactic(auto, unfolding(reql_story::specs::Bodies::body))]
+#[tactic(auto, unfolding(reql_session_spec::specs::Bodies::body))]
 pub fn compile(alloc: Global, why: &str) -> Result<Vec<u8>, Memory>
     ensures { IfOk result (λ b. b.items ≡ body (Compile why.now)) }
 {
@@ -27,7 +27,7 @@ pub fn compile(alloc: Global, why: &str) -> Result<Vec<u8>, Memory>
 }
 
 /// The answer of a request that fails when it runs, with the points that it names.
-#[tactic(auto, unfolding(reql_story::specs::Bodies::body))]
+#[tactic(auto, unfolding(reql_session_spec::specs::Bodies::body))]
 pub fn failed(
     alloc: Global,
     error: ErrorType,

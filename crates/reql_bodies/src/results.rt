@@ -5,8 +5,8 @@ ghost use Rattle.reql_datum.specs.View.{plain};
 ghost use Rattle.reql_json.specs.Showing.{shown};
 ghost use Rattle.reql_answer.specs.Body.{array_of, results, stamped_by};
 ghost use Rattle.reql_answer.specs.Body as answers;
-ghost use Rattle.reql_story.specs.Requests.{Atom, Last, Part};
-ghost use Rattle.reql_story.specs.Bodies.{body};
+ghost use Rattle.reql_session_spec.specs.Requests.{Atom, Last, Part};
+ghost use Rattle.reql_session_spec.specs.Bodies.{body};
 ghost use Rattle.reql_bodies.specs.Parts.{start_text};
 
 use reql_answer::{Stamp, write_end};
@@ -58,7 +58,7 @@ fn stream(
 }
 
 /// The answer of one document.
-#[tactic(auto, unfolding(reql_story::specs::Bodies::body))]
+#[tactic(auto, unfolding(reql_session_spec::specs::Bodies::body))]
 pub fn atom(alloc: Global, document: &Datum, stamp: Stamp<'_>) -> Result<Vec<u8>, Memory>
     ensures { IfOk result (λ b. b.items ≡ body (Atom (plain document.now) (stamped_by stamp.entry))) }
 {
@@ -66,7 +66,7 @@ pub fn atom(alloc: Global, document: &Datum, stamp: Stamp<'_>) -> Result<Vec<u8>
 }
 
 /// The answer with the last documents of a stream.
-#[tactic(auto, unfolding(reql_story::specs::Bodies::body))]
+#[tactic(auto, unfolding(reql_session_spec::specs::Bodies::body))]
 pub fn last(alloc: Global, documents: &[Datum], stamp: Option<Stamp<'_>>) -> Result<Vec<u8>, Memory>
     ensures { IfOk result (λ b. b.items ≡ body (Last (map plain documents.now)
         (option_map stamped_by stamp.entry))) }
@@ -75,7 +75,7 @@ pub fn last(alloc: Global, documents: &[Datum], stamp: Option<Stamp<'_>>) -> Res
 }
 
 /// The answer with some documents of a stream that has more.
-#[tactic(auto, unfolding(reql_story::specs::Bodies::body))]
+#[tactic(auto, unfolding(reql_session_spec::specs::Bodies::body))]
 pub fn part(alloc: Global, documents: &[Datum], stamp: Option<Stamp<'_>>) -> Result<Vec<u8>, Memory>
     ensures { IfOk result (λ b. b.items ≡ body (Part (map plain documents.now)
         (option_map stamped_by stamp.entry))) }

@@ -1,14 +1,14 @@
 -- What an engine that does as its table does is to the table machine.
 use Rattle.std.proofs.Common.{◌≡◌, ◌+◌, ℕ, suc, [], map, Bool, true, false, cond, refl, sym, ap, ◌∙◌, arith}
-use Rattle.reql_table_machine.specs.Fed.{changes_by}
-use Rattle.reql_table_machine.specs.Feeds.{adds, effect, one_more, reply_to_cmd}
-use Rattle.reql_law.specs.Machine.{known_cmd, after}
-use Rattle.reql_law.specs.Replies.{said_of, told_of}
-use Rattle.reql_law.specs.Table.{Held, DocumentTable, feeding, at_key}
-use Rattle.reql_law.specs.declared.command.Entry.{Entry}
-use Rattle.reql_law.specs.declared.command.Order.{Order}
-use Rattle.reql_law.specs.declared.reply.Reply.{Reply}
-use Rattle.reql_law.specs.declared.reply.Said.{Said as AsSaid}
+use Rattle.reql_table_machine_spec.specs.Fed.{changes_by}
+use Rattle.reql_table_machine_spec.specs.Feeds.{adds, effect, one_more, reply_to_cmd}
+use Rattle.reql_table_spec.specs.Machine.{known_cmd, after}
+use Rattle.reql_table_spec.specs.Replies.{said_of, told_of}
+use Rattle.reql_table_spec.specs.Table.{Held, DocumentTable, feeding, at_key}
+use Rattle.reql_table_spec.specs.declared.command.Entry.{Entry}
+use Rattle.reql_table_spec.specs.declared.command.Order.{Order}
+use Rattle.reql_table_spec.specs.declared.reply.Reply.{Reply}
+use Rattle.reql_table_spec.specs.declared.reply.Said.{Said as AsSaid}
 use Rattle.reql_tail.specs.Kept.{Kept}
 use Rattle.reql_core.specs.Core.{Hands, IsSame, GoesOn}
 use Rattle.reql_core.specs.Counted.{effect_place}

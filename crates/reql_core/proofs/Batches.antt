@@ -6,14 +6,14 @@ use Rattle.reql_datum.specs.Plain.{Plain}
 use Rattle.reql_datum.specs.declared.datum.Datum.{Datum}
 use Rattle.reql_term.specs.Views.{Document}
 use Rattle.reql_table.specs.Seen.{Standing, documents_of}
-use Rattle.reql_table_machine.specs.Feeds.{Feed, is_of, find_feed, has_something, takes, unless_shut, says}
-use Rattle.reql_table_machine.specs.declared.command.Cmd.TheVariants as known
-use Rattle.reql_table_machine.specs.declared.command.Said.{Said}
-use Rattle.reql_table_machine.specs.declared.command.Said.TheVariants as said
-use Rattle.reql_write_law.specs.declared.command.Summary.{Summary}
+use Rattle.reql_table_machine_spec.specs.Feeds.{Feed, is_of, find_feed, has_something, takes, unless_shut, says}
+use Rattle.reql_table_machine_spec.specs.declared.command.Cmd.TheVariants as known
+use Rattle.reql_table_machine_spec.specs.declared.command.Said.{Said}
+use Rattle.reql_table_machine_spec.specs.declared.command.Said.TheVariants as said
+use Rattle.reql_write_spec.specs.declared.command.Summary.{Summary}
 use Rattle.reql_queue.specs.declared.queue.Taken.{Taken}
-use Rattle.reql_law.specs.Table.{Held, DocumentTable, feeding}
-use Rattle.reql_law.specs.declared.reply.Said.TheVariants as answers
+use Rattle.reql_table_spec.specs.Table.{Held, DocumentTable, feeding}
+use Rattle.reql_table_spec.specs.declared.reply.Said.TheVariants as answers
 use Rattle.reql_feeds.specs.Record.{records, kept_in, AreBelow, after_take, left, given, batch}
 use Rattle.reql_core.specs.Live.{Live, Lives, table_of, Does}
 use Rattle.reql_core.proofs.Doing.{done, idle}

@@ -7,17 +7,17 @@ use Rattle.reql_memory.specs.Sorted.{AreRisingBy, find_by}
 use Rattle.reql_term.specs.Views.{Document}
 use Rattle.reql_table.specs.Seen.{Standing, Numbered, documents_of}
 use Rattle.reql_rules.specs.Lists.{Bytes}
-use Rattle.reql_table_machine.specs.Feeds.{Feed, notice, after_change, after_changes}
-use Rattle.reql_write_law.specs.Laws.{AllCome}
-use Rattle.reql_write_law.specs.Treated.{Changed, set_at, changed}
-use Rattle.reql_feed_law.specs.Value as value
-use Rattle.reql_law.specs.Table.{Held, DocumentTable, feeding}
+use Rattle.reql_table_machine_spec.specs.Feeds.{Feed, notice, after_change, after_changes}
+use Rattle.reql_write_spec.specs.Laws.{AllCome}
+use Rattle.reql_write_spec.specs.Treated.{Changed, set_at, changed}
+use Rattle.reql_feed_spec.specs.Value as value
+use Rattle.reql_table_spec.specs.Table.{Held, DocumentTable, feeding}
 use Rattle.reql_feeds.specs.Ahead.{Pending, all_ahead, IsDraft}
 use Rattle.reql_feeds.specs.Laws.{ChangesLead}
 use Rattle.reql_feeds.specs.Record.{records, kept_in, AllFit}
 use Rattle.reql_feeds.specs.Told.{noticed}
 use Rattle.reql_feeds.specs.Turn.{told, done, undone, Leads}
-use Rattle.reql_write_law.specs.declared.command.Change.{Change}
+use Rattle.reql_write_spec.specs.declared.command.Change.{Change}
 use Rattle.reql_opening.specs.Opens.{Follows}
 use Rattle.reql_core.specs.Writing.{AreAt, with_feeds}
 use Rattle.reql_core.proofs.Numbers.{same_follows}

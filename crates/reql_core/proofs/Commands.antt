@@ -1,13 +1,13 @@
 -- Commands that change no document.
 use Rattle.std.proofs.Common.{◌≡◌, ◌<◌, ◌^◌, ◌+◌, ℕ, suc, List, [], ◌∷◌, not, Bool, true, false, cond, Option, Some, None, is_some, option_map, true≢false, refl, sym, ap, ◌∙◌, arith}
 use Rattle.reql_datum.specs.Plain.{Plain}
-use Rattle.reql_table_machine.specs.Feeds.{Feed, is_of, find_feed, closes, unless_shut, says, effect, one_more}
-use Rattle.reql_table_machine.specs.declared.command.Cmd.TheVariants as known
-use Rattle.reql_table_machine.specs.declared.command.Said.TheVariants as said
-use Rattle.reql_table_machine.specs.declared.command.Said.{Said}
-use Rattle.reql_write_law.specs.declared.command.Summary.{Summary}
-use Rattle.reql_law.specs.Table.{Held, DocumentTable, feeding}
-use Rattle.reql_law.specs.declared.reply.Said.TheVariants as answers
+use Rattle.reql_table_machine_spec.specs.Feeds.{Feed, is_of, find_feed, closes, unless_shut, says, effect, one_more}
+use Rattle.reql_table_machine_spec.specs.declared.command.Cmd.TheVariants as known
+use Rattle.reql_table_machine_spec.specs.declared.command.Said.TheVariants as said
+use Rattle.reql_table_machine_spec.specs.declared.command.Said.{Said}
+use Rattle.reql_write_spec.specs.declared.command.Summary.{Summary}
+use Rattle.reql_table_spec.specs.Table.{Held, DocumentTable, feeding}
+use Rattle.reql_table_spec.specs.declared.reply.Said.TheVariants as answers
 use Rattle.reql_feeds.specs.Record.{records, record_of, closed}
 pub use Rattle.reql_core.specs.Live.{moved}
 use Rattle.reql_core.specs.Live.{Live, table_of, Does}

@@ -2,12 +2,12 @@
 use Rattle.std.proofs.Common.{◌≡◌, ◌<◌, ◌^◌, ◌-◌, ℕ, Bool, true, false, ◌&&◌, ◌||◌, cond, true≢false, refl, sym, ap, ◌∙◌, arith}
 use Rattle.std.specs.Prelude.{nat_lt}
 use Rattle.std.proofs.lemmas.Bool.Decides.{nat_tests}
-use Rattle.reql_table_machine.specs.Feeds.{says, adds, effect, one_more, is_past, answer}
-use Rattle.reql_table_machine.specs.declared.command.Said.TheVariants as said
-use Rattle.reql_law.specs.Replies.{said_of}
-use Rattle.reql_law.specs.Table.{Held, DocumentTable, feeding}
-use Rattle.reql_law.specs.declared.reply.Said.{Said}
-use Rattle.reql_law.specs.declared.reply.Said.TheVariants as answers
+use Rattle.reql_table_machine_spec.specs.Feeds.{says, adds, effect, one_more, is_past, answer}
+use Rattle.reql_table_machine_spec.specs.declared.command.Said.TheVariants as said
+use Rattle.reql_table_spec.specs.Replies.{said_of}
+use Rattle.reql_table_spec.specs.Table.{Held, DocumentTable, feeding}
+use Rattle.reql_table_spec.specs.declared.reply.Said.{Said}
+use Rattle.reql_table_spec.specs.declared.reply.Said.TheVariants as answers
 use Rattle.reql_core.specs.Live.{Live, Asked, table_of, Does}
 
 and_false : {X : Type 0} (b : Bool) (x y : X) → cond (b && false) x y ≡ y

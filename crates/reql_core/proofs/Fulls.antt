@@ -2,19 +2,19 @@
 use Rattle.std.proofs.Common.{◌≡◌, ◌<◌, ◌^◌, ◌-◌, ℕ, suc, Bool, true, false, cond, not, if◌then◌else◌, nat_lt, length, Option, Some, None, option_map, refl, sym, ap, ◌∙◌, arith}
 use Rattle.reql_datum.specs.Plain.{Plain}
 use Rattle.reql_rules.specs.Types.{same_text}
-use Rattle.reql_table_machine.specs.Feeds.{Feed, find_feed, has_something, takes, closes, opens, says, adds, effect, one_more, is_past}
-use Rattle.reql_table_machine.specs.declared.command.Cmd.TheVariants as known
-use Rattle.reql_table_machine.specs.declared.command.Said.{Said}
-use Rattle.reql_table_machine.specs.declared.command.Said.TheVariants as said
-use Rattle.reql_write_law.specs.declared.command.Summary.{Summary}
-use Rattle.reql_write_law.specs.declared.command.WriteCmd.{WriteCmd}
-use Rattle.reql_law.specs.Indexes.{Indexes, IndexCmd, create, drop, rename, is_there, is_taken, index_said}
-use Rattle.reql_law.specs.Replies.{said_of}
-use Rattle.reql_law.specs.Table.{Held, DocumentTable, feeding}
-use Rattle.reql_law.specs.Table as law
-use Rattle.reql_law.specs.declared.command.FeedSpec.{FeedSpec}
-use Rattle.reql_law.specs.declared.reply.Said.{Said as AsSaid}
-use Rattle.reql_law.specs.declared.reply.Said.TheVariants as answers
+use Rattle.reql_table_machine_spec.specs.Feeds.{Feed, find_feed, has_something, takes, closes, opens, says, adds, effect, one_more, is_past}
+use Rattle.reql_table_machine_spec.specs.declared.command.Cmd.TheVariants as known
+use Rattle.reql_table_machine_spec.specs.declared.command.Said.{Said}
+use Rattle.reql_table_machine_spec.specs.declared.command.Said.TheVariants as said
+use Rattle.reql_write_spec.specs.declared.command.Summary.{Summary}
+use Rattle.reql_write_spec.specs.declared.command.WriteCmd.{WriteCmd}
+use Rattle.reql_table_spec.specs.Indexes.{Indexes, IndexCmd, create, drop, rename, is_there, is_taken, index_said}
+use Rattle.reql_table_spec.specs.Replies.{said_of}
+use Rattle.reql_table_spec.specs.Table.{Held, DocumentTable, feeding}
+use Rattle.reql_table_spec.specs.Table as law
+use Rattle.reql_table_spec.specs.declared.command.FeedSpec.{FeedSpec}
+use Rattle.reql_table_spec.specs.declared.reply.Said.{Said as AsSaid}
+use Rattle.reql_table_spec.specs.declared.reply.Said.TheVariants as answers
 use Rattle.reql_feeds.specs.Record.{records}
 use Rattle.reql_core.specs.Counted.{effect_place}
 use Rattle.reql_core.specs.Live.{Live, Asked, table_of, Does}

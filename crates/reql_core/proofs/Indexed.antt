@@ -9,16 +9,16 @@ use Rattle.reql_rules.specs.Types.{same_text}
 use Rattle.reql_term.specs.Views.{Document, Index}
 use Rattle.reql_table.specs.Edits.{renamed as moved_name}
 use Rattle.reql_table.specs.Seen.{Standing, documents_of, indexes_of}
-use Rattle.reql_table_machine.specs.Feeds.{says, adds}
-use Rattle.reql_table_machine.specs.declared.command.Cmd.TheVariants as known
-use Rattle.reql_table_machine.specs.declared.command.Said.{Said}
-use Rattle.reql_table_machine.specs.declared.command.Said.TheVariants as said
-use Rattle.reql_write_law.specs.declared.command.Summary.{Summary}
-use Rattle.reql_law.specs.Indexes.{Indexes, IndexCmd, create, drop, rename, is_there, is_taken, renamed, indexed, index_said}
-use Rattle.reql_law.specs.Replies.{said_of}
-use Rattle.reql_law.specs.Table.{Held, feeding}
-use Rattle.reql_law.specs.declared.reply.Said.{Said as AsSaid}
-use Rattle.reql_law.specs.declared.reply.Said.TheVariants as answers
+use Rattle.reql_table_machine_spec.specs.Feeds.{says, adds}
+use Rattle.reql_table_machine_spec.specs.declared.command.Cmd.TheVariants as known
+use Rattle.reql_table_machine_spec.specs.declared.command.Said.{Said}
+use Rattle.reql_table_machine_spec.specs.declared.command.Said.TheVariants as said
+use Rattle.reql_write_spec.specs.declared.command.Summary.{Summary}
+use Rattle.reql_table_spec.specs.Indexes.{Indexes, IndexCmd, create, drop, rename, is_there, is_taken, renamed, indexed, index_said}
+use Rattle.reql_table_spec.specs.Replies.{said_of}
+use Rattle.reql_table_spec.specs.Table.{Held, feeding}
+use Rattle.reql_table_spec.specs.declared.reply.Said.{Said as AsSaid}
+use Rattle.reql_table_spec.specs.declared.reply.Said.TheVariants as answers
 use Rattle.reql_feeds.specs.Record.{kept_in}
 use Rattle.reql_core.specs.Live.{Live, Lives, gone_on, table_of, Does}
 use Rattle.reql_opening.specs.Opens.{Follows}

@@ -5,7 +5,7 @@ use Rattle.std.proofs.lemmas.List.Elements.{All-from_recursion, recursion_from_A
 use Rattle.reql_datum.specs.Plain.{Plain}
 use Rattle.reql_term.specs.Views.{Document}
 use Rattle.reql_table.specs.Seen.{Standing, documents_of}
-use Rattle.reql_table_machine.specs.Feeds.{Feed, is_of}
+use Rattle.reql_table_machine_spec.specs.Feeds.{Feed, is_of}
 use Rattle.std.proofs.lemmas.List.{map-append}
 use Rattle.reql_feeds.specs.Record.{kept_in, closed, fresh}
 use Rattle.reql_core.specs.Live.{Live, Lives}

@@ -1,11 +1,11 @@
 -- What a command that is no write hands over.
 use Rattle.std.proofs.Common.{◌≡◌, ℕ, List, [], map, Bool, true, false, cond, refl, sym, ap, ◌∙◌}
-use Rattle.reql_table_machine.specs.Fed.{changes_at, changes_by}
-use Rattle.reql_table_machine.specs.Feeds.{adds, answer}
-use Rattle.reql_write_law.specs.Treated.{Changed}
-use Rattle.reql_law.specs.Engines.{kept_of}
-use Rattle.reql_law.specs.Table.{DocumentTable, feeding, at_key}
-use Rattle.reql_law.specs.declared.engine.Kept.{Kept as Hand}
+use Rattle.reql_table_machine_spec.specs.Fed.{changes_at, changes_by}
+use Rattle.reql_table_machine_spec.specs.Feeds.{adds, answer}
+use Rattle.reql_write_spec.specs.Treated.{Changed}
+use Rattle.reql_table_spec.specs.Engines.{kept_of}
+use Rattle.reql_table_spec.specs.Table.{DocumentTable, feeding, at_key}
+use Rattle.reql_table_spec.specs.declared.engine.Kept.{Kept as Hand}
 use Rattle.reql_core.specs.Live.{Asked}
 
 none_at_all : (b : Bool) → ◌≡◌ {A = List Changed} (cond b [] []) []

@@ -5,8 +5,8 @@ use denote.Param.SendFields.{declared_send, as_row_send}
 use Rattle.std.proofs.Crossing.{crosses}
 use Rattle.reql_table.proofs.Sends.{table_send}
 use Rattle.reql_table.specs.contracts.table.Table as table
-use Rattle.reql_law.proofs.Sends.{entry_send, kept_send}
-use Rattle.reql_law.specs.contracts.command.Entry as entry
+use Rattle.reql_table_spec.proofs.Sends.{entry_send, kept_send}
+use Rattle.reql_table_spec.specs.contracts.command.Entry as entry
 use Rattle.reql_tail.proofs.Sends.{tail_send}
 use Rattle.reql_tail.specs.contracts.tail.Tail as tail
 use Rattle.reql_feeds.proofs.Sends.{feeds_send}

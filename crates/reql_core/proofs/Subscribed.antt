@@ -5,15 +5,15 @@ use Rattle.std.proofs.lemmas.Bool.Decides.{nat_tests}
 use Rattle.std.proofs.lemmas.List.{length-map, map-append}
 use Rattle.reql_datum.specs.Plain.{Plain}
 use Rattle.reql_table.specs.Seen.{documents_of, indexes_of}
-use Rattle.reql_table_machine.specs.Feeds.{opens, opened_in, says, one_more}
-use Rattle.reql_table_machine.specs.declared.command.Cmd.TheVariants as known
-use Rattle.reql_table_machine.specs.declared.command.Said.{Said}
-use Rattle.reql_table_machine.specs.declared.command.Said.TheVariants as said
-use Rattle.reql_write_law.specs.declared.command.Summary.{Summary}
-use Rattle.reql_law.specs.Table.{Held, DocumentTable, feeding}
-use Rattle.reql_law.specs.Table as law
-use Rattle.reql_law.specs.declared.command.FeedSpec.{FeedSpec}
-use Rattle.reql_law.specs.declared.reply.Said.TheVariants as answers
+use Rattle.reql_table_machine_spec.specs.Feeds.{opens, opened_in, says, one_more}
+use Rattle.reql_table_machine_spec.specs.declared.command.Cmd.TheVariants as known
+use Rattle.reql_table_machine_spec.specs.declared.command.Said.{Said}
+use Rattle.reql_table_machine_spec.specs.declared.command.Said.TheVariants as said
+use Rattle.reql_write_spec.specs.declared.command.Summary.{Summary}
+use Rattle.reql_table_spec.specs.Table.{Held, DocumentTable, feeding}
+use Rattle.reql_table_spec.specs.Table as law
+use Rattle.reql_table_spec.specs.declared.command.FeedSpec.{FeedSpec}
+use Rattle.reql_table_spec.specs.declared.reply.Said.TheVariants as answers
 use Rattle.reql_feeds.specs.Record.{records, record_of, fresh}
 use Rattle.reql_core.specs.Live.{Live, table_of, Does}
 use Rattle.reql_core.proofs.Doing.{done, idle}

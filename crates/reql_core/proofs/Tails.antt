@@ -1,14 +1,14 @@
 -- What a command makes of a table without its feeds, and of the tail.
 use Rattle.std.proofs.Common.{◌≡◌, ℕ, suc, List, [], ◌∷◌, ◌++◌, Bool, true, false, cond, nat_lt, length, Option, Some, None, true≢false, inl, inr, ⊎_elim, subst, refl, sym, ap, ◌∙◌}
-use Rattle.reql_table_machine.specs.Feeds.{adds, answer, after_change, after_changes, new_feed, opened_in, effect, one_more}
-use Rattle.reql_table_machine.specs.declared.command.Cmd.TheVariants as known
-use Rattle.reql_write_law.specs.Treated.{Changed}
-use Rattle.reql_law.specs.Table.{Held, DocumentTable, feeding, held}
-use Rattle.reql_law.specs.Machine.{known_cmd}
-use Rattle.reql_law.specs.Replies.{said_of}
-use Rattle.reql_law.specs.declared.command.Entry.{Entry}
-use Rattle.reql_law.specs.declared.command.Order.{Order}
-use Rattle.reql_law.specs.declared.reply.Said.{Said as AsSaid}
+use Rattle.reql_table_machine_spec.specs.Feeds.{adds, answer, after_change, after_changes, new_feed, opened_in, effect, one_more}
+use Rattle.reql_table_machine_spec.specs.declared.command.Cmd.TheVariants as known
+use Rattle.reql_write_spec.specs.Treated.{Changed}
+use Rattle.reql_table_spec.specs.Table.{Held, DocumentTable, feeding, held}
+use Rattle.reql_table_spec.specs.Machine.{known_cmd}
+use Rattle.reql_table_spec.specs.Replies.{said_of}
+use Rattle.reql_table_spec.specs.declared.command.Entry.{Entry}
+use Rattle.reql_table_spec.specs.declared.command.Order.{Order}
+use Rattle.reql_table_spec.specs.declared.reply.Said.{Said as AsSaid}
 use Rattle.reql_tail.specs.Kept.{Kept, Adds, Lengthens, Moves, standing}
 use Rattle.reql_core.specs.Core.{stand_of, IsTail, IsSame, GoesOn}
 use Rattle.reql_core.specs.Live.{Live, Asked, table_of, Does}

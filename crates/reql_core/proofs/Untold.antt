@@ -5,11 +5,11 @@ use Rattle.reql_datum.specs.Plain.{Plain}
 use Rattle.reql_rules.specs.Lists.{Bytes}
 use Rattle.reql_term.specs.Views.{Document, Index}
 use Rattle.reql_table.specs.Seen.{Standing, Numbered, documents_of, indexes_of}
-use Rattle.reql_table_machine.specs.Feeds.{Feed, after_changes}
-use Rattle.reql_write_law.specs.Treated.{Changed, set_at, changed_by}
-use Rattle.reql_write_law.specs.declared.command.Change.{Change}
-use Rattle.reql_feed_law.specs.Value as value
-use Rattle.reql_law.specs.Table.{Held, DocumentTable, feeding}
+use Rattle.reql_table_machine_spec.specs.Feeds.{Feed, after_changes}
+use Rattle.reql_write_spec.specs.Treated.{Changed, set_at, changed_by}
+use Rattle.reql_write_spec.specs.declared.command.Change.{Change}
+use Rattle.reql_feed_spec.specs.Value as value
+use Rattle.reql_table_spec.specs.Table.{Held, DocumentTable, feeding}
 use Rattle.reql_feeds.specs.Ahead.{Pending, all_ahead, IsDraft}
 use Rattle.reql_feeds.specs.Record.{records, kept_in, AllFit}
 use Rattle.reql_feeds.specs.Turn.{told}

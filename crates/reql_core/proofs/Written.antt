@@ -6,20 +6,20 @@ use Rattle.reql_datum.specs.Plain.{Plain}
 use Rattle.reql_memory.specs.Sorted.{AreRisingBy, find_by}
 use Rattle.reql_term.specs.Views.{Document}
 use Rattle.reql_table.specs.Seen.{Standing, documents_of, indexes_of}
-use Rattle.reql_table_machine.specs.Fed.{changes_at}
-use Rattle.reql_table_machine.specs.Feeds.{Feed, push, push_all, dropping, adds, after_change, after_changes, one_more, says}
-use Rattle.reql_table_machine.specs.declared.command.Cmd.TheVariants as known
-use Rattle.reql_table_machine.specs.declared.command.Said.TheVariants as said
-use Rattle.reql_write_law.specs.Laws.{AllCome}
-use Rattle.reql_write_law.specs.Treated.{Changed, changed}
-use Rattle.reql_write_law.specs.Write.{write}
-use Rattle.reql_write_law.specs.declared.command.Change.{Change}
-use Rattle.reql_write_law.specs.declared.command.Summary.{Summary}
-use Rattle.reql_write_law.specs.declared.command.WriteCmd.{WriteCmd}
-use Rattle.reql_law.specs.Replies.{said_of}
-use Rattle.reql_law.specs.Table.{Held, DocumentTable, feeding, at_key}
-use Rattle.reql_law.specs.declared.reply.Said.{Said}
-use Rattle.reql_law.specs.declared.reply.Said.TheVariants as answers
+use Rattle.reql_table_machine_spec.specs.Fed.{changes_at}
+use Rattle.reql_table_machine_spec.specs.Feeds.{Feed, push, push_all, dropping, adds, after_change, after_changes, one_more, says}
+use Rattle.reql_table_machine_spec.specs.declared.command.Cmd.TheVariants as known
+use Rattle.reql_table_machine_spec.specs.declared.command.Said.TheVariants as said
+use Rattle.reql_write_spec.specs.Laws.{AllCome}
+use Rattle.reql_write_spec.specs.Treated.{Changed, changed}
+use Rattle.reql_write_spec.specs.Write.{write}
+use Rattle.reql_write_spec.specs.declared.command.Change.{Change}
+use Rattle.reql_write_spec.specs.declared.command.Summary.{Summary}
+use Rattle.reql_write_spec.specs.declared.command.WriteCmd.{WriteCmd}
+use Rattle.reql_table_spec.specs.Replies.{said_of}
+use Rattle.reql_table_spec.specs.Table.{Held, DocumentTable, feeding, at_key}
+use Rattle.reql_table_spec.specs.declared.reply.Said.{Said}
+use Rattle.reql_table_spec.specs.declared.reply.Said.TheVariants as answers
 use Rattle.reql_feeds.specs.Ahead.{Pending, all_ahead}
 use Rattle.reql_feeds.specs.Laws.{ChangesLead}
 use Rattle.reql_feeds.specs.Record.{records, kept_in, AllFit}

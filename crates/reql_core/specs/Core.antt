@@ -1,15 +1,15 @@
 -- The engine of a table: the table with its feeds, what is kept of its history, and what its last command changed.
 use Rattle.std.specs.Prelude.{◌≡◌, ℕ, List, map, Bool, true, false, Option, Some, None}
 use Rattle.reql_datum.specs.Plain.{Plain}
-use Rattle.reql_table_machine.specs.Fed.{changes_at}
-use Rattle.reql_table_machine.specs.Feeds.{adds}
-use Rattle.reql_law.specs.Machine.{State, known_cmd}
-use Rattle.reql_law.specs.Replies.{said_of}
-use Rattle.reql_law.specs.Table.{Held, DocumentTable, feeding, at_key}
-use Rattle.reql_law.specs.declared.command.Entry.{Entry}
-use Rattle.reql_law.specs.declared.command.Order.{Order}
-use Rattle.reql_law.specs.declared.reply.Reply.{Reply}
-use Rattle.reql_law.specs.declared.reply.Saved.TheVariants.{Yes}
+use Rattle.reql_table_machine_spec.specs.Fed.{changes_at}
+use Rattle.reql_table_machine_spec.specs.Feeds.{adds}
+use Rattle.reql_table_spec.specs.Machine.{State, known_cmd}
+use Rattle.reql_table_spec.specs.Replies.{said_of}
+use Rattle.reql_table_spec.specs.Table.{Held, DocumentTable, feeding, at_key}
+use Rattle.reql_table_spec.specs.declared.command.Entry.{Entry}
+use Rattle.reql_table_spec.specs.declared.command.Order.{Order}
+use Rattle.reql_table_spec.specs.declared.reply.Reply.{Reply}
+use Rattle.reql_table_spec.specs.declared.reply.Saved.TheVariants.{Yes}
 use Rattle.reql_tail.specs.Kept.{Kept, Adds, standing}
 use Rattle.reql_core.specs.Live.{Live, table_of, live_state}
 use Rattle.reql_core.specs.Moments.{stand, led_by}

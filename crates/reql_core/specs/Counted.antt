@@ -1,12 +1,12 @@
 -- Every entry counts one.
 use Rattle.std.specs.Prelude.{◌≡◌, ℕ, suc, List, [], ◌∷◌, ◌++◌, Bool, true, false, cond, Option, Some, None, nat_lt, length, refl}
 use Rattle.std.proofs.Common.{ap}
-use Rattle.reql_table_machine.specs.Feeds.{effect, after_change, after_changes, opened_in, new_feed}
-use Rattle.reql_table_machine.specs.declared.command.Cmd.TheVariants as known
-use Rattle.reql_write_law.specs.Treated.{Changed}
+use Rattle.reql_table_machine_spec.specs.Feeds.{effect, after_change, after_changes, opened_in, new_feed}
+use Rattle.reql_table_machine_spec.specs.declared.command.Cmd.TheVariants as known
+use Rattle.reql_write_spec.specs.Treated.{Changed}
 use Rattle.reql_tail.specs.Led.{CountsOne}
-use Rattle.reql_law.specs.Machine.{known_cmd}
-use Rattle.reql_law.specs.Table.{Held, DocumentTable, feeding, held}
+use Rattle.reql_table_spec.specs.Machine.{known_cmd}
+use Rattle.reql_table_spec.specs.Table.{Held, DocumentTable, feeding, held}
 use Rattle.reql_core.specs.Live.{Asked}
 use Rattle.reql_core.specs.Moments.{led_by}
 

@@ -3,15 +3,15 @@ use Rattle.std.specs.Prelude.{◌≡◌, ◌<◌, ◌^◌, ◌+◌, ℕ, suc, Li
 use Rattle.reql_datum.specs.Plain.{Plain}
 use Rattle.reql_term.specs.Views.{Document}
 use Rattle.reql_table.specs.Seen.{Standing, documents_of, indexes_of}
-use Rattle.reql_table_machine.specs.Feeds.{Feed, answer, after_cmd}
-use Rattle.reql_table_machine.specs.declared.command.Cmd.{Cmd as Known}
-use Rattle.reql_write_law.specs.declared.command.WriteCmd.{WriteCmd}
-use Rattle.reql_law.specs.Indexes.{IndexCmd}
-use Rattle.reql_law.specs.Machine.{State}
-use Rattle.reql_law.specs.Replies.{said_of}
-use Rattle.reql_law.specs.Table.{Held, DocumentTable, feeding}
-use Rattle.reql_law.specs.declared.command.FeedSpec.{FeedSpec}
-use Rattle.reql_law.specs.declared.reply.Said.{Said}
+use Rattle.reql_table_machine_spec.specs.Feeds.{Feed, answer, after_cmd}
+use Rattle.reql_table_machine_spec.specs.declared.command.Cmd.{Cmd as Known}
+use Rattle.reql_write_spec.specs.declared.command.WriteCmd.{WriteCmd}
+use Rattle.reql_table_spec.specs.Indexes.{IndexCmd}
+use Rattle.reql_table_spec.specs.Machine.{State}
+use Rattle.reql_table_spec.specs.Replies.{said_of}
+use Rattle.reql_table_spec.specs.Table.{Held, DocumentTable, feeding}
+use Rattle.reql_table_spec.specs.declared.command.FeedSpec.{FeedSpec}
+use Rattle.reql_table_spec.specs.declared.reply.Said.{Said}
 use Rattle.reql_feeds.specs.Record.{records, kept_in, AreBelow, AllFit}
 use Rattle.reql_core.specs.declared.moment.Moment.{Moment}
 

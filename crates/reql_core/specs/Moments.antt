@@ -1,10 +1,10 @@
 -- Where a table's documents and indexes stand, and where entries lead them.
 use Rattle.std.specs.Prelude.{ℕ, [], false}
 use Rattle.reql_table.specs.Seen.{Standing, documents_of, indexes_of}
-use Rattle.reql_table_machine.specs.Feeds.{effect, one_more}
-use Rattle.reql_law.specs.Machine.{known_cmd}
-use Rattle.reql_law.specs.Table.{DocumentTable, feeding}
-use Rattle.reql_law.specs.declared.command.Entry.{Entry}
+use Rattle.reql_table_machine_spec.specs.Feeds.{effect, one_more}
+use Rattle.reql_table_spec.specs.Machine.{known_cmd}
+use Rattle.reql_table_spec.specs.Table.{DocumentTable, feeding}
+use Rattle.reql_table_spec.specs.declared.command.Entry.{Entry}
 
 -- a table without its feeds, and as if it were open
 abbrev pub bare : DocumentTable → DocumentTable

@@ -1,7 +1,7 @@
 -- What was saved did not fail.
 use Rattle.std.proofs.Common.{◌≡◌, ◌≤◌, le_refl, subst, sym}
-use Rattle.reql_law.specs.declared.reply.Saved.{Saved}
-use Rattle.reql_law.specs.declared.reply.Saved.TheVariants.{Yes, Failed, Memory}
+use Rattle.reql_table_spec.specs.declared.reply.Saved.{Saved}
+use Rattle.reql_table_spec.specs.declared.reply.Saved.TheVariants.{Yes, Failed, Memory}
 
 abbrev is_saved : Saved → Type 0
 is_saved Yes = Unit {0}

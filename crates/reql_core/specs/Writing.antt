@@ -3,8 +3,8 @@ use Rattle.std.specs.Prelude.{ℕ, ◌+◌, List, false}
 use Rattle.reql_datum.specs.Plain.{Plain}
 use Rattle.reql_term.specs.Views.{Document}
 use Rattle.reql_table.specs.Seen.{Standing, documents_of, indexes_of}
-use Rattle.reql_table_machine.specs.Feeds.{Feed}
-use Rattle.reql_law.specs.Table.{Held, DocumentTable}
+use Rattle.reql_table_machine_spec.specs.Feeds.{Feed}
+use Rattle.reql_table_spec.specs.Table.{Held, DocumentTable}
 use Rattle.reql_feeds.specs.Ahead.{Pending, all_ahead, IsDraft}
 use Rattle.reql_feeds.specs.Record.{kept_in, AllFit}
 use Rattle.reql_core.specs.Live.{Live}

@@ -1,21 +1,21 @@
 // The table machine.
 ghost use Rattle.std.specs.Prelude.{◌≡◌, refl};
 ghost use Rattle.reql_table.specs.Seen.{documents_of, indexes_of};
-ghost use Rattle.reql_law.specs.Engines.{seen_in};
-ghost use Rattle.reql_law.specs.Machine.{machine, unused};
-ghost use Rattle.reql_law.specs.Replies.{told_of};
-ghost use Rattle.reql_law.specs.declared.reply.Saved.TheVariants.{Yes};
+ghost use Rattle.reql_table_spec.specs.Engines.{seen_in};
+ghost use Rattle.reql_table_spec.specs.Machine.{machine, unused};
+ghost use Rattle.reql_table_spec.specs.Replies.{told_of};
+ghost use Rattle.reql_table_spec.specs.declared.reply.Saved.TheVariants.{Yes};
 ghost use Rattle.reql_core.specs.Core.{Tells, state_of};
 ghost use Rattle.reql_core.specs.Saved.{never_falls, not_failed};
 
 use crate::table_core::{TableCore, adds_entry};
-use reql_law::{
-    Heard, Keeping, Kept, Look, MachineState, Order, Reply, Said, Saved, TableEngine, Told,
-};
 use reql_memory::{Memory, Refused};
 use reql_opening::Opening;
 use reql_shared::{Engine, Snap};
 use reql_table::Table;
+use reql_table_spec::{
+    Heard, Keeping, Kept, Look, MachineState, Order, Reply, Said, Saved, TableEngine, Told,
+};
 use std::mem;
 
 impl<F: Opening> Engine for TableCore<F> {

@@ -1,15 +1,15 @@
 // Commands where the history has room for no entry.
 ghost use Rattle.std.specs.Prelude.{◌≡◌, ◌-◌, ◌^◌, cond, option_map};
-ghost use Rattle.reql_table_machine.specs.Feeds.{find_feed, has_something};
-ghost use Rattle.reql_table_machine.specs.declared.command.Cmd.TheVariants as known;
-ghost use Rattle.reql_law.specs.Machine.{known_cmd};
-ghost use Rattle.reql_law.specs.declared.reply.Said.TheVariants as answers;
+ghost use Rattle.reql_table_machine_spec.specs.Feeds.{find_feed, has_something};
+ghost use Rattle.reql_table_machine_spec.specs.declared.command.Cmd.TheVariants as known;
+ghost use Rattle.reql_table_spec.specs.Machine.{known_cmd};
+ghost use Rattle.reql_table_spec.specs.declared.reply.Said.TheVariants as answers;
 ghost use Rattle.reql_feeds.specs.Record.{records};
 ghost use Rattle.reql_core.specs.Live.{Does};
 
 use crate::live::LiveTable;
-use reql_law::{Cmd, Said};
 use reql_opening::Opening;
+use reql_table_spec::{Cmd, Said};
 
 impl<F: Opening> LiveTable<F> {
     // What an open table answers, and what a table that was dropped does.

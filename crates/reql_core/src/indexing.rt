@@ -5,17 +5,17 @@ ghost use Rattle.reql_rules.specs.Types.{same_text};
 ghost use Rattle.reql_term.specs.Views.{index_of};
 ghost use Rattle.reql_table.specs.Edits.{renamed};
 ghost use Rattle.reql_table.specs.Seen.{documents_of, indexes_of};
-ghost use Rattle.reql_table_machine.specs.declared.command.Cmd.TheVariants as known;
-ghost use Rattle.reql_law.specs.Indexes.{create, drop, rename, is_there, is_taken};
+ghost use Rattle.reql_table_machine_spec.specs.declared.command.Cmd.TheVariants as known;
+ghost use Rattle.reql_table_spec.specs.Indexes.{create, drop, rename, is_there, is_taken};
 ghost use Rattle.reql_core.specs.Live.{Does, moved, gone_on};
 ghost use Rattle.reql_opening.specs.Opens.{Follows};
 
 use crate::live::LiveTable;
 use reql_datum::Name;
-use reql_law::Said;
 use reql_memory::Memory;
 use reql_opening::Opening;
 use reql_table::Table;
+use reql_table_spec::Said;
 use reql_term::{IndexDef, TableView};
 
 // Whether two names are the same.

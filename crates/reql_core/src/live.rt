@@ -1,17 +1,17 @@
 // A table with its open feeds.
 ghost use Rattle.std.specs.Prelude.{◌≡◌, [], IfOk};
 ghost use Rattle.reql_table.specs.Seen.{documents_of, indexes_of};
-ghost use Rattle.reql_table_machine.specs.Feeds.{look};
-ghost use Rattle.reql_law.specs.Engines.{seen_in};
-ghost use Rattle.reql_law.specs.Table.{feeding};
+ghost use Rattle.reql_table_machine_spec.specs.Feeds.{look};
+ghost use Rattle.reql_table_spec.specs.Engines.{seen_in};
+ghost use Rattle.reql_table_spec.specs.Table.{feeding};
 ghost use Rattle.reql_core.specs.Live.{table_of};
 
 use crate::moment::Moment;
 use reql_feeds::Feeds;
-use reql_law::Look;
 use reql_memory::Memory;
 use reql_opening::Opening;
 use reql_table::Table;
+use reql_table_spec::Look;
 use std::alloc::Global;
 use std::marker::Model;
 

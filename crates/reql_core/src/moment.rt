@@ -2,9 +2,9 @@
 ghost use Rattle.reql_core.specs.Counted.{counted};
 ghost use Rattle.reql_core.specs.Moments.{stand, led_by};
 
-use reql_law::Entry;
 use reql_memory::Memory;
 use reql_table::Table;
+use reql_table_spec::Entry;
 use reql_tail::Led;
 use std::marker::Model;
 
@@ -26,7 +26,7 @@ impl Model for Stand {
     ghost use Rattle.std.specs.Coded.{codes};
     ghost use Rattle.reql_datum.specs.Code.{plain_code, list_code, pairs_code};
     ghost use Rattle.reql_term.specs.FormCode.{form_code};
-    ghost use Rattle.reql_law.specs.Table.{DocumentTable, opening};
+    ghost use Rattle.reql_table_spec.specs.Table.{DocumentTable, opening};
 
     ghost Value = { DocumentTable };
 

@@ -1,16 +1,16 @@
 // A command is run.
 ghost use Rattle.std.specs.Prelude.{◌≡◌, ◌+◌, ◌<◌, ◌^◌, [], map, IfOk, OnErr};
-ghost use Rattle.reql_table_machine.specs.Fed.{changes_at};
-ghost use Rattle.reql_law.specs.Engines.{kept_of};
-ghost use Rattle.reql_law.specs.Machine.{known_cmd};
-ghost use Rattle.reql_law.specs.Table.{feeding, at_key};
+ghost use Rattle.reql_table_machine_spec.specs.Fed.{changes_at};
+ghost use Rattle.reql_table_spec.specs.Engines.{kept_of};
+ghost use Rattle.reql_table_spec.specs.Machine.{known_cmd};
+ghost use Rattle.reql_table_spec.specs.Table.{feeding, at_key};
 ghost use Rattle.reql_core.specs.Live.{table_of, Does};
 
 use crate::live::LiveTable;
 use crate::writing::Wrote;
-use reql_law::{Cmd, Said};
 use reql_memory::Memory;
 use reql_opening::Opening;
+use reql_table_spec::{Cmd, Said};
 use std::alloc::Global;
 
 /// What was answered, where no document changed.

@@ -1,11 +1,11 @@
 // Commands that change no document.
 ghost use Rattle.std.specs.Prelude.{◌+◌, ◌<◌, ◌^◌};
-ghost use Rattle.reql_table_machine.specs.declared.command.Cmd.TheVariants as known;
+ghost use Rattle.reql_table_machine_spec.specs.declared.command.Cmd.TheVariants as known;
 ghost use Rattle.reql_core.specs.Live.{Does};
 
 use crate::live::LiveTable;
-use reql_law::Said;
 use reql_opening::Opening;
+use reql_table_spec::Said;
 
 impl<F: Opening> LiveTable<F> {
     /// Nothing but an entry. The history has room for one.

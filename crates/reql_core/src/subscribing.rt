@@ -1,13 +1,13 @@
 // A feed is opened.
 ghost use Rattle.std.specs.Prelude.{◌≡◌, ◌+◌, ◌<◌, ◌^◌, false, IfOk, OnErr};
-ghost use Rattle.reql_table_machine.specs.declared.command.Cmd.TheVariants as known;
+ghost use Rattle.reql_table_machine_spec.specs.declared.command.Cmd.TheVariants as known;
 ghost use Rattle.reql_core.specs.Live.{Does};
 ghost use Rattle.reql_opening.specs.Opens.{IsOpened};
 
 use crate::live::LiveTable;
-use reql_law::{FeedSpec, Said};
 use reql_memory::Memory;
 use reql_opening::{Opened, Opening};
+use reql_table_spec::{FeedSpec, Said};
 
 impl<F: Opening> LiveTable<F> {
     // Keeps a feed that was opened, if one more may be open.

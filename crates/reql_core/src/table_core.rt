@@ -1,11 +1,11 @@
 // The engine of a table, and the base and the tail of its history.
 ghost use Rattle.std.specs.Prelude.{◌≡◌, ◌≤◌, ◌+◌, ◌-◌, ◌<◌, ◌^◌, ◌++◌, [], map, true, false, IfOk, IfErr, OnErr};
-ghost use Rattle.reql_table_machine.specs.Feeds.{adds};
-ghost use Rattle.reql_law.specs.Engines.{kept_of};
+ghost use Rattle.reql_table_machine_spec.specs.Feeds.{adds};
+ghost use Rattle.reql_table_spec.specs.Engines.{kept_of};
 ghost use Rattle.reql_table.specs.Seen.{documents_of, indexes_of};
-ghost use Rattle.reql_law.specs.Machine.{known_cmd, opened, unused};
-ghost use Rattle.reql_law.specs.Replies.{said_of};
-ghost use Rattle.reql_law.specs.Table.{feeding};
+ghost use Rattle.reql_table_spec.specs.Machine.{known_cmd, opened, unused};
+ghost use Rattle.reql_table_spec.specs.Replies.{said_of};
+ghost use Rattle.reql_table_spec.specs.Table.{feeding};
 ghost use Rattle.reql_tail.specs.Kept.{IsKept, standing};
 ghost use Rattle.reql_core.specs.Core.{Hands, IsSame, GoesOn, stand_of, state_of, IsTail};
 ghost use Rattle.reql_core.specs.Live.{Does};
@@ -14,10 +14,10 @@ ghost use Rattle.reql_core.specs.Moments.{led_by};
 use crate::live::LiveTable;
 use crate::moment::Moment;
 use crate::writing::Wrote;
-use reql_law::{Entry, Kept, Limits, Order, Said};
 use reql_memory::Memory;
 use reql_opening::Opening;
 use reql_table::Table;
+use reql_table_spec::{Entry, Kept, Limits, Order, Said};
 use reql_tail::Tail;
 use std::alloc::Global;
 use std::marker::Model;
@@ -37,7 +37,7 @@ impl<F: Opening> Model for TableCore<F> {
     ghost use Rattle.std.specs.Coded.{codes};
     ghost use Rattle.reql_datum.specs.Code.{plain_code};
     ghost use Rattle.reql_term.specs.FormCode.{form_code};
-    ghost use Rattle.reql_law.specs.Engines.{kept_of};
+    ghost use Rattle.reql_table_spec.specs.Engines.{kept_of};
     ghost use Rattle.reql_core.specs.Core.{Core, IsTail};
 
     ghost Value = { Core F };

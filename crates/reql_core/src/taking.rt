@@ -1,15 +1,15 @@
 // A Take of a feed.
 ghost use Rattle.std.specs.Prelude.{◌≡◌, ◌+◌, ◌<◌, ◌^◌, true, false, IfOk, OnErr, Some, None};
 ghost use Rattle.std.specs.Prelude.{option_map};
-ghost use Rattle.reql_table_machine.specs.Feeds.{find_feed, has_something};
-ghost use Rattle.reql_table_machine.specs.declared.command.Cmd.TheVariants as known;
+ghost use Rattle.reql_table_machine_spec.specs.Feeds.{find_feed, has_something};
+ghost use Rattle.reql_table_machine_spec.specs.declared.command.Cmd.TheVariants as known;
 ghost use Rattle.reql_feeds.specs.Record.{records};
 ghost use Rattle.reql_core.specs.Live.{Does};
 
 use crate::live::LiveTable;
-use reql_law::Said;
 use reql_memory::Memory;
 use reql_opening::Opening;
+use reql_table_spec::Said;
 
 impl<F: Opening> LiveTable<F> {
     // Takes what waits in a feed in which something is.

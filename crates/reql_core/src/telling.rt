@@ -3,10 +3,10 @@ ghost use Rattle.std.specs.Prelude.{◌≡◌, ℕ, ◌+◌, ◌<◌, ◌^◌, m
 ghost use Rattle.reql_datum.specs.Order.{order};
 ghost use Rattle.reql_memory.specs.Sorted.{AreRisingBy, find_by};
 ghost use Rattle.reql_table.specs.Seen.{documents_of};
-ghost use Rattle.reql_table_machine.specs.Feeds.{notice, after_changes};
-ghost use Rattle.reql_write_law.specs.Laws.{AllCome};
-ghost use Rattle.reql_write_law.specs.Treated.{changed as changed_of, changed_by};
-ghost use Rattle.reql_law.specs.Table.{feeding};
+ghost use Rattle.reql_table_machine_spec.specs.Feeds.{notice, after_changes};
+ghost use Rattle.reql_write_spec.specs.Laws.{AllCome};
+ghost use Rattle.reql_write_spec.specs.Treated.{changed as changed_of, changed_by};
+ghost use Rattle.reql_table_spec.specs.Table.{feeding};
 ghost use Rattle.reql_feeds.specs.Ahead.{all_ahead};
 ghost use Rattle.reql_feeds.specs.Record.{kept_in, records, AllFit};
 ghost use Rattle.reql_feeds.specs.Turn.{told};
@@ -17,7 +17,7 @@ use reql_memory::Memory;
 use reql_opening::Opening;
 use reql_ptree::Tree;
 use reql_table::Table;
-use reql_write_law::Change;
+use reql_write_spec::Change;
 use std::alloc::Global;
 
 /// The table after one change.

@@ -2,14 +2,14 @@
 // as they are. Of other changes a draft of the feeds is told before any of them takes effect.
 ghost use Rattle.std.specs.Prelude.{◌≡◌, ◌+◌, ◌<◌, ◌^◌, [], ◌∷◌, map, length, false, IfOk, IfSome, OnOk, OnErr};
 ghost use Rattle.reql_table.specs.Seen.{documents_of, indexes_of};
-ghost use Rattle.reql_table_machine.specs.Fed.{changes_at};
-ghost use Rattle.reql_table_machine.specs.Feeds.{after_changes, one_more};
-ghost use Rattle.reql_table_machine.specs.declared.command.Cmd.TheVariants as known;
-ghost use Rattle.reql_write_law.specs.Laws.{AllCome};
-ghost use Rattle.reql_write_law.specs.Treated.{changed_by};
-ghost use Rattle.reql_write_law.specs.Write.{write};
-ghost use Rattle.reql_law.specs.Engines.{kept_of};
-ghost use Rattle.reql_law.specs.Table.{feeding, at_key};
+ghost use Rattle.reql_table_machine_spec.specs.Fed.{changes_at};
+ghost use Rattle.reql_table_machine_spec.specs.Feeds.{after_changes, one_more};
+ghost use Rattle.reql_table_machine_spec.specs.declared.command.Cmd.TheVariants as known;
+ghost use Rattle.reql_write_spec.specs.Laws.{AllCome};
+ghost use Rattle.reql_write_spec.specs.Treated.{changed_by};
+ghost use Rattle.reql_write_spec.specs.Write.{write};
+ghost use Rattle.reql_table_spec.specs.Engines.{kept_of};
+ghost use Rattle.reql_table_spec.specs.Table.{feeding, at_key};
 ghost use Rattle.reql_feeds.specs.Ahead.{all_ahead};
 ghost use Rattle.reql_feeds.specs.Record.{records};
 ghost use Rattle.reql_feeds.specs.Turn.{told};
@@ -19,13 +19,13 @@ ghost use Rattle.reql_core.specs.Writing.{AreAt, with_feeds, landed};
 use crate::live::LiveTable;
 use crate::telling::{changed, tell_all, tell_none};
 use reql_feeds::{Draft, feeds_laws};
-use reql_law::{Kept, Said, WriteCmd};
 use reql_memory::Memory;
 use reql_opening::Opening;
 use reql_ptree::Tree;
 use reql_table::Table;
+use reql_table_spec::{Kept, Said, WriteCmd};
 use reql_write::{Planned, plan_write};
-use reql_write_law::{Change, write_law};
+use reql_write_spec::{Change, write_law};
 use std::alloc::Global;
 
 /// What a write was answered, and its changes as they are handed over.

@@ -11,16 +11,16 @@ use Rattle.reql_catalog.specs.Machine.{catalogue_machine}
 use Rattle.reql_catalog.specs.declared.command.CatCmd.{CatCmd}
 use Rattle.reql_catalog.specs.declared.command.CatReply.{CatReply}
 use Rattle.reql_hall.specs.Rooms.{pass, Tells}
-use Rattle.reql_table_machine.specs.declared.command.Look.{Look}
-use Rattle.reql_law.specs.Engines.{TellsAll, FailsByFaults}
-use Rattle.reql_law.specs.Machine.{State, Seen, machine, after}
-use Rattle.reql_law.specs.Replies.{Answered, told_of}
-use Rattle.reql_law.specs.declared.command.Order.{Order}
-use Rattle.reql_law.specs.declared.reply.Reply.{Reply}
-use Rattle.reql_law.specs.declared.reply.Saved.{Saved}
-use Rattle.reql_law.specs.declared.reply.Saved.TheVariants as saved
-use Rattle.reql_story.specs.Session.{On}
-use Rattle.reql_story.specs.Explained.{IsHonest}
+use Rattle.reql_table_machine_spec.specs.declared.command.Look.{Look}
+use Rattle.reql_table_spec.specs.Engines.{TellsAll, FailsByFaults}
+use Rattle.reql_table_spec.specs.Machine.{State, Seen, machine, after}
+use Rattle.reql_table_spec.specs.Replies.{Answered, told_of}
+use Rattle.reql_table_spec.specs.declared.command.Order.{Order}
+use Rattle.reql_table_spec.specs.declared.reply.Reply.{Reply}
+use Rattle.reql_table_spec.specs.declared.reply.Saved.{Saved}
+use Rattle.reql_table_spec.specs.declared.reply.Saved.TheVariants as saved
+use Rattle.reql_session_spec.specs.Session.{On}
+use Rattle.reql_session_spec.specs.Explained.{IsHonest}
 use Rattle.reql_desk_moves.specs.Acting.{AtDesk, ActsAt, Answers, Denies, RunsAt, Shows, LooksAt, NamesAct, ChangesNames, LooksAtNames}
 
 -- an engine stays as sound as it was made

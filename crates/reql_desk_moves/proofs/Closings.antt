@@ -3,20 +3,20 @@ use Rattle.std.proofs.Common.{◌≡◌, inl, inr, ℕ, zero, ◌+◌, ◌<◌, 
 use Rattle.std.specs.Prelude.{nat_eq}
 use Rattle.std.proofs.Math.ListN.{drop_of_length-le}
 use Rattle.reql_shared.specs.Acts.{Ran, Denied}
-use Rattle.reql_law.specs.Machine.{State}
-use Rattle.reql_law.specs.declared.reply.Saved.TheVariants as saved
-use Rattle.reql_story.specs.Requests.{Arm, Answer, Internal}
-use Rattle.reql_story.specs.Books.{Books, Cursor, Open, closed}
-use Rattle.reql_story.specs.Tasks.{Talk, Task, Next, Closing, Firm, Stops, Drops, Settled, at, close, may_tell, only_tell, close_order}
-use Rattle.reql_story.specs.Session.{Mach, Leaving}
-use Rattle.reql_story.specs.Worlds.{Does, at_desk, with_out}
-use Rattle.reql_story.specs.declared.end.End.{End}
-use Rattle.reql_story.proofs.Going.{does_on}
-use Rattle.reql_story.proofs.Steps.{does_none, does_act}
-use Rattle.reql_talk.specs.Meant.{arm_of}
+use Rattle.reql_table_spec.specs.Machine.{State}
+use Rattle.reql_table_spec.specs.declared.reply.Saved.TheVariants as saved
+use Rattle.reql_session_spec.specs.Requests.{Arm, Answer, Internal}
+use Rattle.reql_session_spec.specs.Books.{Books, Cursor, Open, closed}
+use Rattle.reql_session_spec.specs.Tasks.{Talk, Task, Next, Closing, Firm, Stops, Drops, Settled, at, close, may_tell, only_tell, close_order}
+use Rattle.reql_session_spec.specs.Session.{Mach, Leaving}
+use Rattle.reql_session_spec.specs.Worlds.{Does, at_desk, with_out}
+use Rattle.reql_session_spec.specs.declared.end.End.{End}
+use Rattle.reql_session_spec.proofs.Going.{does_on}
+use Rattle.reql_session_spec.proofs.Steps.{does_none, does_act}
+use Rattle.reql_session_api.specs.Meant.{arm_of}
 use Rattle.reql_desk_moves.specs.Acting.{AtDesk, ClosesArm}
 use Rattle.reql_desk_moves.specs.Steps.{Steps, StopsArms, after_closing}
-use Rattle.reql_talk.specs.declared.answered.Arm as coded
+use Rattle.reql_session_api.specs.declared.answered.Arm as coded
 use Rattle.reql_desk_moves.proofs.Stepping.{next_in, steps_none, steps_on, steps_ran, steps_denied}
 
 tested_twice : {X : Type 0} (f : X → Bool) (x : X) (xs : List X) → filter f (filter f xs) ≡ filter f xs → (b : Bool) → f x ≡ b → filter f (cond b (x ∷ filter f xs) (filter f xs)) ≡ cond b (x ∷ filter f xs) (filter f xs)

@@ -1,17 +1,17 @@
 -- Moves on a desk, one after another.
 use Rattle.std.proofs.Common.{◌≡◌, inl, inr, ℕ, zero, suc, ◌+◌, ◌<◌, get_or, drop-cons, add-one, List, [], ◌∷◌, length, map, drop, Option, refl, sym, ap, subst, ◌∙◌}
 use Rattle.reql_shared.specs.Acts.{Ran, Denied}
-use Rattle.reql_law.specs.Machine.{State}
-use Rattle.reql_law.specs.Replies.{Answered}
-use Rattle.reql_law.specs.declared.command.Order.{Order}
-use Rattle.reql_law.specs.declared.reply.Saved.{Saved}
-use Rattle.reql_law.specs.declared.reply.Saved.TheVariants as saved
-use Rattle.reql_story.specs.Books.{Books}
-use Rattle.reql_story.specs.Tasks.{Talk, Task, Next, at, wanted, ran, denied, Runs}
-use Rattle.reql_story.specs.Session.{Mach, goes_on}
-use Rattle.reql_story.specs.Worlds.{at_desk, with_out}
-use Rattle.reql_story.proofs.Going.{does_on}
-use Rattle.reql_story.proofs.Steps.{does_none, does_act, does_want}
+use Rattle.reql_table_spec.specs.Machine.{State}
+use Rattle.reql_table_spec.specs.Replies.{Answered}
+use Rattle.reql_table_spec.specs.declared.command.Order.{Order}
+use Rattle.reql_table_spec.specs.declared.reply.Saved.{Saved}
+use Rattle.reql_table_spec.specs.declared.reply.Saved.TheVariants as saved
+use Rattle.reql_session_spec.specs.Books.{Books}
+use Rattle.reql_session_spec.specs.Tasks.{Talk, Task, Next, at, wanted, ran, denied, Runs}
+use Rattle.reql_session_spec.specs.Session.{Mach, goes_on}
+use Rattle.reql_session_spec.specs.Worlds.{at_desk, with_out}
+use Rattle.reql_session_spec.proofs.Going.{does_on}
+use Rattle.reql_session_spec.proofs.Steps.{does_none, does_act, does_want}
 use Rattle.reql_desk_moves.specs.Acting.{AtDesk, Answers, Denies}
 use Rattle.reql_desk_moves.specs.Steps.{Steps}
 

@@ -3,19 +3,19 @@ use Rattle.std.proofs.Common.{◌≡◌, ℕ, zero, ◌+◌, ◌<◌, ◌≤◌,
 use Rattle.std.proofs.Math.ListN.{drop_of_length-le}
 use Rattle.reql_datum.specs.Plain.{Plain}
 use Rattle.reql_datum.specs.declared.point.Point.{Point}
-use Rattle.reql_table_machine.specs.declared.command.Said.{Said}
-use Rattle.reql_table_machine.specs.declared.command.Said.TheVariants as said
-use Rattle.reql_write_law.specs.declared.command.Summary.{Summary}
-use Rattle.reql_law.specs.Machine.{State}
-use Rattle.reql_law.specs.Replies.{Answered, told_of}
-use Rattle.reql_law.specs.declared.reply.Reply.{Reply}
-use Rattle.reql_story.specs.Requests.{Arm, Internal, point, put_point}
-use Rattle.reql_story.specs.Books.{Books, Open, feed_of, waits}
-use Rattle.reql_story.specs.Tasks.{Talk, Next, Visiting, at, done, only_tell, next_arm, took, took_said, take_order}
-use Rattle.reql_talk.specs.Meant.{arm_of}
+use Rattle.reql_table_machine_spec.specs.declared.command.Said.{Said}
+use Rattle.reql_table_machine_spec.specs.declared.command.Said.TheVariants as said
+use Rattle.reql_write_spec.specs.declared.command.Summary.{Summary}
+use Rattle.reql_table_spec.specs.Machine.{State}
+use Rattle.reql_table_spec.specs.Replies.{Answered, told_of}
+use Rattle.reql_table_spec.specs.declared.reply.Reply.{Reply}
+use Rattle.reql_session_spec.specs.Requests.{Arm, Internal, point, put_point}
+use Rattle.reql_session_spec.specs.Books.{Books, Open, feed_of, waits}
+use Rattle.reql_session_spec.specs.Tasks.{Talk, Next, Visiting, at, done, only_tell, next_arm, took, took_said, take_order}
+use Rattle.reql_session_api.specs.Meant.{arm_of}
 use Rattle.reql_desk_moves.specs.Acting.{AtDesk, tells_something, TakesArm}
 use Rattle.reql_desk_moves.specs.Steps.{Steps, put_points, VisitsArms}
-use Rattle.reql_talk.specs.declared.answered.Arm as coded
+use Rattle.reql_session_api.specs.declared.answered.Arm as coded
 use Rattle.reql_desk_moves.specs.declared.taking.Taken.TheVariants as taken
 use Rattle.reql_desk_moves.specs.declared.taking.Visited.TheVariants as visited
 use Rattle.reql_desk_moves.proofs.Stepping.{next_in, drop_map, steps_none, steps_on, steps_ran, steps_denied, steps_want}

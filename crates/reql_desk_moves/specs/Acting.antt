@@ -12,21 +12,21 @@ use Rattle.reql_catalog.specs.declared.catalog.Catalog.{Catalog}
 use Rattle.reql_catalog.specs.declared.command.CatCmd.{CatCmd}
 use Rattle.reql_catalog.specs.declared.command.CatReply.{CatReply}
 use Rattle.reql_hall.specs.Rooms.{Sitting, pass}
-use Rattle.reql_table_machine.specs.declared.command.Look.{Look}
-use Rattle.reql_table_machine.specs.declared.command.Said.{Said}
-use Rattle.reql_table_machine.specs.declared.command.Said.TheVariants as said
-use Rattle.reql_write_law.specs.declared.command.Summary.{Summary}
-use Rattle.reql_law.specs.Machine.{State, Seen}
-use Rattle.reql_law.specs.Replies.{Answered, told_of, said_of}
-use Rattle.reql_law.specs.declared.command.Order.{Order}
-use Rattle.reql_law.specs.declared.reply.Reply.{Reply}
-use Rattle.reql_law.specs.declared.reply.Saved.{Saved}
-use Rattle.reql_story.specs.Requests.{point}
-use Rattle.reql_story.specs.Tasks.{take_order, close_order}
-use Rattle.reql_story.specs.Session.{Event, On}
-use Rattle.reql_story.specs.Explained.{IsHonest}
-use Rattle.reql_story.specs.Worlds.{OnSlot}
-use Rattle.reql_talk.specs.declared.answered.Arm.{Arm}
+use Rattle.reql_table_machine_spec.specs.declared.command.Look.{Look}
+use Rattle.reql_table_machine_spec.specs.declared.command.Said.{Said}
+use Rattle.reql_table_machine_spec.specs.declared.command.Said.TheVariants as said
+use Rattle.reql_write_spec.specs.declared.command.Summary.{Summary}
+use Rattle.reql_table_spec.specs.Machine.{State, Seen}
+use Rattle.reql_table_spec.specs.Replies.{Answered, told_of, said_of}
+use Rattle.reql_table_spec.specs.declared.command.Order.{Order}
+use Rattle.reql_table_spec.specs.declared.reply.Reply.{Reply}
+use Rattle.reql_table_spec.specs.declared.reply.Saved.{Saved}
+use Rattle.reql_session_spec.specs.Requests.{point}
+use Rattle.reql_session_spec.specs.Tasks.{take_order, close_order}
+use Rattle.reql_session_spec.specs.Session.{Event, On}
+use Rattle.reql_session_spec.specs.Explained.{IsHonest}
+use Rattle.reql_session_spec.specs.Worlds.{OnSlot}
+use Rattle.reql_session_api.specs.declared.answered.Arm.{Arm}
 use Rattle.reql_desk_moves.specs.declared.taking.Taken.{Taken}
 use Rattle.reql_desk_moves.specs.declared.taking.Taken.TheVariants as taken
 

@@ -1,13 +1,13 @@
 -- From one point of a task to another, by moves on a desk alone.
 use Rattle.std.specs.Prelude.{◌≡◌, ℕ, List, [], ◌∷◌, drop, Bool, true, false, Option}
 use Rattle.reql_datum.specs.declared.point.Point.{Point}
-use Rattle.reql_law.specs.Machine.{State}
-use Rattle.reql_law.specs.Replies.{said_of}
-use Rattle.reql_story.specs.Requests.{Arm, Answer, Internal, put_point}
-use Rattle.reql_story.specs.Books.{Books, Open, closed, waits}
-use Rattle.reql_story.specs.Tasks.{Talk, Next, Visiting, Stops, at, done, only_tell, may_tell, close, took_said}
-use Rattle.reql_story.specs.Session.{Mach, goes_on}
-use Rattle.reql_story.specs.Worlds.{Does, at_desk}
+use Rattle.reql_table_spec.specs.Machine.{State}
+use Rattle.reql_table_spec.specs.Replies.{said_of}
+use Rattle.reql_session_spec.specs.Requests.{Arm, Answer, Internal, put_point}
+use Rattle.reql_session_spec.specs.Books.{Books, Open, closed, waits}
+use Rattle.reql_session_spec.specs.Tasks.{Talk, Next, Visiting, Stops, at, done, only_tell, may_tell, close, took_said}
+use Rattle.reql_session_spec.specs.Session.{Mach, goes_on}
+use Rattle.reql_session_spec.specs.Worlds.{Does, at_desk}
 use Rattle.reql_desk_moves.specs.Acting.{AtDesk, tells_something}
 use Rattle.reql_desk_moves.specs.declared.taking.Visited.{Visited}
 use Rattle.reql_desk_moves.specs.declared.taking.Visited.TheVariants as visited

@@ -1,24 +1,24 @@
 // The arms of a feed, and how they are closed: by one Unsubscribe each.
 ghost use Rattle.std.specs.Prelude.{◌≡◌, ◌<◌, ◌++◌, length, drop, Option, ℕ, List, []};
 ghost use Rattle.reql_hall.specs.Rooms.{Sits};
-ghost use Rattle.reql_story.specs.Requests.{Answer};
-ghost use Rattle.reql_story.specs.Requests as story;
-ghost use Rattle.reql_story.specs.Books.{Books, closed};
-ghost use Rattle.reql_story.specs.Tasks.{Talk, Settled, Drops, close, may_tell};
-ghost use Rattle.reql_story.specs.Session.{Mach, Leaving};
-ghost use Rattle.reql_story.specs.Worlds.{Does, at_desk};
-ghost use Rattle.reql_story.specs.declared.end.End.{End};
-ghost use Rattle.reql_talk.specs.Meant.{arms_of};
+ghost use Rattle.reql_session_spec.specs.Requests.{Answer};
+ghost use Rattle.reql_session_spec.specs.Requests as story;
+ghost use Rattle.reql_session_spec.specs.Books.{Books, closed};
+ghost use Rattle.reql_session_spec.specs.Tasks.{Talk, Settled, Drops, close, may_tell};
+ghost use Rattle.reql_session_spec.specs.Session.{Mach, Leaving};
+ghost use Rattle.reql_session_spec.specs.Worlds.{Does, at_desk};
+ghost use Rattle.reql_session_spec.specs.declared.end.End.{End};
+ghost use Rattle.reql_session_api.specs.Meant.{arms_of};
 ghost use Rattle.reql_desk_moves.specs.Acting.{AreThere, ClosesArm};
 ghost use Rattle.reql_desk_moves.specs.Steps.{Steps, StopsArms, after_closing};
 
 use crate::slots::run_at;
 use reql_catalog::Catalogue;
 use reql_hall::{Desk, Hall};
-use reql_law::{Cmd, Order, TableEngine};
 use reql_memory::Seq;
-use reql_story::Planning;
-use reql_talk::Arm;
+use reql_session_api::Arm;
+use reql_session_spec::Planning;
+use reql_table_spec::{Cmd, Order, TableEngine};
 use std::alloc::Global;
 use std::sync::Wait;
 

@@ -4,9 +4,9 @@ ghost use Rattle.reql_desk_moves.specs.Acting.{ChangesNames, LooksAtNames};
 
 use reql_catalog::{CatCmd, CatReply, Catalogue, Names};
 use reql_hall::{Desk, Hall};
-use reql_law::TableEngine;
 use reql_memory::{Memory, Refused};
 use reql_shared::Snap;
+use reql_table_spec::TableEngine;
 use std::sync::Wait;
 
 /// Runs a command on the names. It may wait for other threads.

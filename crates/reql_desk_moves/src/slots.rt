@@ -5,9 +5,9 @@ ghost use Rattle.reql_desk_moves.specs.Acting.{RunsAt, LooksAt};
 
 use reql_catalog::Catalogue;
 use reql_hall::{Desk, Hall};
-use reql_law::{Look, Order, Reply, TableEngine};
 use reql_memory::{Memory, Refused};
 use reql_shared::Snap;
+use reql_table_spec::{Look, Order, Reply, TableEngine};
 use std::sync::Wait;
 
 /// Runs a command on a slot. It may wait for other threads.

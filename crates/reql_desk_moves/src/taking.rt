@@ -1,20 +1,20 @@
 // A visit of a feed: one Take on each arm, until one is answered.
 ghost use Rattle.std.specs.Prelude.{◌≡◌, ◌<◌, ◌≤◌, [], length, vec_capacity, Some, IfOk};
 ghost use Rattle.reql_hall.specs.Rooms.{Sits};
-ghost use Rattle.reql_law.specs.Replies.{said_of};
-ghost use Rattle.reql_story.specs.Books.{Books, Open, feed_of};
-ghost use Rattle.reql_story.specs.Tasks.{Talk};
-ghost use Rattle.reql_talk.specs.Meant.{arms_of};
+ghost use Rattle.reql_table_spec.specs.Replies.{said_of};
+ghost use Rattle.reql_session_spec.specs.Books.{Books, Open, feed_of};
+ghost use Rattle.reql_session_spec.specs.Tasks.{Talk};
+ghost use Rattle.reql_session_api.specs.Meant.{arms_of};
 ghost use Rattle.reql_desk_moves.specs.Acting.{AreThere, TakesArm, tells_something};
 ghost use Rattle.reql_desk_moves.specs.Steps.{VisitsArms};
 
 use crate::slots::run_at;
 use reql_catalog::Catalogue;
 use reql_hall::{Desk, Hall};
-use reql_law::{Cmd, Order, Point, Reply, Said, TableEngine};
 use reql_memory::{Memory, Seq};
-use reql_story::Planning;
-use reql_talk::Arm;
+use reql_session_api::Arm;
+use reql_session_spec::Planning;
+use reql_table_spec::{Cmd, Order, Point, Reply, Said, TableEngine};
 use std::alloc::Global;
 use std::sync::Wait;
 

@@ -14,27 +14,27 @@ use Rattle.reql_term.specs.declared.role.Way.TheVariants as way
 use Rattle.reql_term.specs.declared.term.Term.{Term}
 use Rattle.reql_rules.specs.Faults.{misplaced, wrong_count}
 use Rattle.reql_rules.specs.Lists.{Bytes}
-use Rattle.reql_value.specs.Lazy.{chained, branch, default}
-use Rattle.reql_value.specs.Meaning.{sense, sense_by, called, settled, applied as applied_to}
-use Rattle.reql_value.specs.Meant.{Rule}
-use Rattle.reql_value.specs.Sense.{Sense, plain, func, sorter, raiser, value, key_argument, arguments, key_arguments, strict}
-use Rattle.reql_value.specs.Scalars.{make_array}
-use Rattle.reql_value.specs.Sequenced.{array}
-use Rattle.reql_value.specs.World.{World, Vars, bind}
+use Rattle.reql_value_spec.specs.Lazy.{chained, branch, default}
+use Rattle.reql_value_spec.specs.Meaning.{sense, sense_by, called, settled, applied as applied_to}
+use Rattle.reql_value_spec.specs.Meant.{Rule}
+use Rattle.reql_value_spec.specs.Sense.{Sense, plain, func, sorter, raiser, value, key_argument, arguments, key_arguments, strict}
+use Rattle.reql_value_spec.specs.Scalars.{make_array}
+use Rattle.reql_value_spec.specs.Sequenced.{array}
+use Rattle.reql_value_spec.specs.World.{World, Vars, bind}
 use Rattle.reql_apply.specs.Kinds.{kind_rule}
-use Rattle.reql_ways.specs.Ruled.{ruled, in_groups}
+use Rattle.reql_argument_order.specs.Ruled.{ruled, in_groups}
 use Rattle.reql_apply.specs.declared.kinds.Kind.{Kind}
 use Rattle.reql_apply.specs.declared.kinds.Kind.TheVariants as kind
 use Rattle.reql_apply.specs.declared.kinds.Scalar.TheVariants as scalar
-use Rattle.reql_sense.specs.Bound.{bound, bound_step, listed, optional}
-use Rattle.reql_sense.proofs.Frames.{bind_differs}
-use Rattle.reql_sense.specs.Kinds.{given_to}
-use Rattle.reql_sense.specs.Ways.{taken_by, is_taking, is_lazy, lazy, tail}
-use Rattle.reql_sense.specs.declared.vars.Vars.TheVariants as vars
-use Rattle.reql_sense.specs.declared.vars.Vars.TheVariants.{rolls-Empty}
-use Rattle.reql_sense.specs.declared.vars.Vars.TheFolds.{fold-roll-Vars}
-use Rattle.reql_sense.specs.declared.vars.Vars.TheOpen.{Vars-F}
-use Rattle.reql_ways.specs.Applied.{applied}
+use Rattle.reql_term_analysis.specs.Bound.{bound, bound_step, listed, optional}
+use Rattle.reql_term_analysis.proofs.Frames.{bind_differs}
+use Rattle.reql_term_analysis.specs.Kinds.{given_to}
+use Rattle.reql_term_analysis.specs.Ways.{taken_by, is_taking, is_lazy, lazy, tail}
+use Rattle.reql_term_analysis.specs.declared.vars.Vars.TheVariants as vars
+use Rattle.reql_term_analysis.specs.declared.vars.Vars.TheVariants.{rolls-Empty}
+use Rattle.reql_term_analysis.specs.declared.vars.Vars.TheFolds.{fold-roll-Vars}
+use Rattle.reql_term_analysis.specs.declared.vars.Vars.TheOpen.{Vars-F}
+use Rattle.reql_argument_order.specs.Applied.{applied}
 use Rattle.reql_eval.specs.Taken.{taking, key_value, out_of_order}
 
 -- what a call gave, moved along an equation

@@ -4,12 +4,12 @@ use Rattle.reql_datum.specs.Answer.{Answer, ◌>>=◌}
 use Rattle.reql_term.specs.declared.role.Way.{Way}
 use Rattle.reql_rules.specs.Faults.{misplaced, misplaced_order}
 use Rattle.reql_rules.specs.Lists.{Bytes}
-use Rattle.reql_value.specs.Meant.{Meant}
-use Rattle.reql_value.specs.Sense.{Sense, value, arguments, options, calls_of}
-use Rattle.reql_value.specs.World.{World, Vars}
+use Rattle.reql_value_spec.specs.Meant.{Meant}
+use Rattle.reql_value_spec.specs.Sense.{Sense, value, arguments, options, calls_of}
+use Rattle.reql_value_spec.specs.World.{World, Vars}
 use Rattle.reql_apply.specs.declared.kinds.Kind.{Kind}
-use Rattle.reql_sense.specs.Ways.{taken_by, chosen}
-use Rattle.reql_ways.specs.Applied.{applied}
+use Rattle.reql_term_analysis.specs.Ways.{taken_by, chosen}
+use Rattle.reql_argument_order.specs.Applied.{applied}
 
 -- the rule on what the arguments and the optional ones gave
 unfoldable pub taking : Way → Kind → List Sense → List (Bytes × Sense) → World → Vars → Answer Meant

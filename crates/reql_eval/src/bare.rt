@@ -3,7 +3,7 @@ ghost use Rattle.std.specs.Prelude.{◌≡◌, map};
 ghost use Rattle.reql_datum.specs.Outcome.{Gives};
 ghost use Rattle.reql_datum.specs.View.{plain};
 ghost use Rattle.reql_term.specs.View.{form_of};
-ghost use Rattle.reql_value.specs.World.{bare_world};
+ghost use Rattle.reql_value_spec.specs.World.{bare_world};
 ghost use Rattle.reql_operand.specs.Tables.{seen};
 ghost use Rattle.reql_eval.specs.Bare.{function_datum};
 

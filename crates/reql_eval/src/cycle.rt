@@ -5,30 +5,30 @@ ghost use Rattle.reql_datum.specs.Members.{text_order};
 ghost use Rattle.reql_datum.specs.Outcome.{Gives};
 ghost use Rattle.reql_datum.specs.View.{plain};
 ghost use Rattle.reql_term.specs.View.{form_of};
-ghost use Rattle.reql_value.specs.Lazy.{default};
-ghost use Rattle.reql_value.specs.Meaning.{sense, sense_of, called, make_object};
-ghost use Rattle.reql_value.specs.Scalars.{make_array};
-ghost use Rattle.reql_value.specs.Sense.{value, argument, key_argument, arguments as arguments_of, option, index_option, default_option, options, strict, call_of, calls_of};
-ghost use Rattle.reql_value.specs.Sequenced.{array};
+ghost use Rattle.reql_value_spec.specs.Lazy.{default};
+ghost use Rattle.reql_value_spec.specs.Meaning.{sense, sense_of, called, make_object};
+ghost use Rattle.reql_value_spec.specs.Scalars.{make_array};
+ghost use Rattle.reql_value_spec.specs.Sense.{value, argument, key_argument, arguments as arguments_of, option, index_option, default_option, options, strict, call_of, calls_of};
+ghost use Rattle.reql_value_spec.specs.Sequenced.{array};
 ghost use Rattle.reql_operand.specs.Seen.{meant, shown, key, all_shown, all_chosen};
 ghost use Rattle.reql_operand.specs.Tables.{seen};
-ghost use Rattle.reql_sense.specs.Bound.{bound, listed, optional};
-ghost use Rattle.reql_sense.specs.Kinds.{sense_in, given_to};
-ghost use Rattle.reql_sense.specs.Ways.{taken_by, chosen, lazy, either};
-ghost use Rattle.reql_ways.specs.Applied.{applied};
-ghost use Rattle.reql_ways.specs.Lent.{value_at, taken_at};
+ghost use Rattle.reql_term_analysis.specs.Bound.{bound, listed, optional};
+ghost use Rattle.reql_term_analysis.specs.Kinds.{sense_in, given_to};
+ghost use Rattle.reql_term_analysis.specs.Ways.{taken_by, chosen, lazy, either};
+ghost use Rattle.reql_argument_order.specs.Applied.{applied};
+ghost use Rattle.reql_argument_order.specs.Lent.{value_at, taken_at};
 ghost use Rattle.reql_eval.specs.Taken.{taking, key_value};
 
 use crate::steps::{out_of_order, parameter, table, variable};
 use reql_apply::{Kind, Scalar, kind_of};
+use reql_argument_order::{apply_by, arguments, default_to, function_at, lazily};
 use reql_datum::{Datum, Fault};
 use reql_operand::{Arg, Choice, Key, Value, World, misplaced, wrong_count};
-use reql_sense::{
-    Vars, arg_of, callee, direction, function_in, is_fit, late, object_of, raising, takes_key,
-};
 use reql_simple::{found, object_found};
 use reql_term::{Op, TableView, Term, TermFields, Way};
-use reql_ways::{apply_by, arguments, default_to, function_at, lazily};
+use reql_term_analysis::{
+    Vars, arg_of, callee, direction, function_in, is_fit, late, object_of, raising, takes_key,
+};
 use std::alloc::Global;
 
 /// What a term gives in a value position.
@@ -212,7 +212,7 @@ fn apply_to<V: TableView>(
 
 // The arguments, from left to right.
 #[cycle(eval)]
-#[tactic(auto, using(reql_sense::proofs::Terms::length_listed))]
+#[tactic(auto, using(reql_term_analysis::proofs::Terms::length_listed))]
 fn eval_args<V: TableView>(
     alloc: Global,
     way: Way,
@@ -237,7 +237,7 @@ fn eval_args<V: TableView>(
 
 // The argument at a place.
 #[cycle(eval)]
-#[tactic(auto, using(reql_sense::proofs::Terms::term_below, reql_sense::proofs::Terms::slot_within, reql_sense::proofs::Terms::slot_past))]
+#[tactic(auto, using(reql_term_analysis::proofs::Terms::term_below, reql_term_analysis::proofs::Terms::slot_within, reql_term_analysis::proofs::Terms::slot_past))]
 fn eval_taken_at<V: TableView>(
     alloc: Global,
     way: Way,
@@ -278,7 +278,7 @@ fn eval_taken<V: TableView>(
 
 // A key of ORDER_BY.
 #[cycle(eval)]
-#[tactic(auto, using(reql_sense::proofs::Senses::key_under, reql_sense::proofs::Senses::key_here))]
+#[tactic(auto, using(reql_term_analysis::proofs::Senses::key_under, reql_term_analysis::proofs::Senses::key_here))]
 fn eval_key<V: TableView>(
     alloc: Global,
     term: &Term,
@@ -386,7 +386,7 @@ fn eval_chosen<V: TableView>(
 
 // The `index` of ORDER_BY.
 #[cycle(eval)]
-#[tactic(auto, using(reql_sense::proofs::Senses::index_under, reql_sense::proofs::Senses::index_here))]
+#[tactic(auto, using(reql_term_analysis::proofs::Senses::index_under, reql_term_analysis::proofs::Senses::index_here))]
 fn eval_index<V: TableView>(
     alloc: Global,
     term: &Term,
@@ -409,7 +409,7 @@ fn eval_index<V: TableView>(
 
 // The `default` of FILTER.
 #[cycle(eval)]
-#[tactic(auto, using(reql_sense::proofs::Senses::late_under, reql_sense::proofs::Senses::late_here))]
+#[tactic(auto, using(reql_term_analysis::proofs::Senses::late_under, reql_term_analysis::proofs::Senses::late_here))]
 fn eval_late<V: TableView>(
     alloc: Global,
     term: &Term,
@@ -444,7 +444,7 @@ fn eval_option<V: TableView>(
 
 // The function at a place called.
 #[cycle(eval)]
-#[tactic(auto, using(reql_sense::proofs::Terms::term_below, reql_sense::proofs::Terms::slot_within, reql_sense::proofs::Terms::slot_past))]
+#[tactic(auto, using(reql_term_analysis::proofs::Terms::term_below, reql_term_analysis::proofs::Terms::slot_within, reql_term_analysis::proofs::Terms::slot_past))]
 fn call<V: TableView>(
     alloc: Global,
     terms: &[Term],
@@ -465,7 +465,7 @@ fn call<V: TableView>(
 
 // A function called; nothing else is.
 #[cycle(eval)]
-#[tactic(auto, using(reql_sense::proofs::Senses::call_function, reql_sense::proofs::Senses::call_other))]
+#[tactic(auto, using(reql_term_analysis::proofs::Senses::call_function, reql_term_analysis::proofs::Senses::call_other))]
 fn call_term<V: TableView>(
     alloc: Global,
     term: &Term,
@@ -487,7 +487,7 @@ fn call_term<V: TableView>(
 
 // A body called with as many values as there are parameters.
 #[cycle(eval)]
-#[tactic(auto, using(reql_sense::proofs::Frames::bind_fits, reql_sense::proofs::Frames::bind_differs))]
+#[tactic(auto, using(reql_term_analysis::proofs::Frames::bind_fits, reql_term_analysis::proofs::Frames::bind_differs))]
 fn call_body<V: TableView>(
     alloc: Global,
     ids: &[u64],
@@ -513,7 +513,7 @@ fn call_body<V: TableView>(
 
 /// What a function gives on values, or what another term gives.
 #[cycle(eval)]
-#[tactic(auto, using(reql_sense::proofs::Senses::given_function, reql_sense::proofs::Senses::given_other))]
+#[tactic(auto, using(reql_term_analysis::proofs::Senses::given_function, reql_term_analysis::proofs::Senses::given_other))]
 pub(crate) fn give_to<V: TableView>(
     alloc: Global,
     term: &Term,
@@ -535,7 +535,7 @@ pub(crate) fn give_to<V: TableView>(
 
 // ASC and DESC in a value position.
 #[cycle(eval)]
-#[tactic(auto, using(reql_sense::proofs::Terms::term_below))]
+#[tactic(auto, using(reql_term_analysis::proofs::Terms::term_below))]
 fn eval_ordered<V: TableView>(
     alloc: Global,
     terms: &[Term],
@@ -553,7 +553,7 @@ fn eval_ordered<V: TableView>(
 
 // AND, OR and BRANCH.
 #[cycle(eval)]
-#[tactic(auto, using(reql_sense::proofs::Terms::length_listed))]
+#[tactic(auto, using(reql_term_analysis::proofs::Terms::length_listed))]
 fn eval_lazily<V: TableView>(
     alloc: Global,
     way: Way,
@@ -579,7 +579,7 @@ fn eval_lazily<V: TableView>(
 
 // The value of the term at a place.
 #[cycle(eval)]
-#[tactic(auto, using(reql_sense::proofs::Terms::term_below, reql_sense::proofs::Terms::slot_within, reql_sense::proofs::Terms::slot_past))]
+#[tactic(auto, using(reql_term_analysis::proofs::Terms::term_below, reql_term_analysis::proofs::Terms::slot_within, reql_term_analysis::proofs::Terms::slot_past))]
 fn eval_at<V: TableView>(
     alloc: Global,
     terms: &[Term],
@@ -598,7 +598,7 @@ fn eval_at<V: TableView>(
 
 // DEFAULT.
 #[cycle(eval)]
-#[tactic(auto, using(reql_sense::proofs::Terms::two_below))]
+#[tactic(auto, using(reql_term_analysis::proofs::Terms::two_below))]
 fn eval_default<V: TableView>(
     alloc: Global,
     terms: &[Term],

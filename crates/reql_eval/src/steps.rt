@@ -2,18 +2,18 @@
 ghost use Rattle.std.specs.Prelude.{[]};
 ghost use Rattle.reql_datum.specs.Answer.{Answer};
 ghost use Rattle.reql_datum.specs.Outcome.{Gives};
-ghost use Rattle.reql_value.specs.Meaning.{bound as bound_to, table_of};
-ghost use Rattle.reql_value.specs.Meant.{Meant};
-ghost use Rattle.reql_value.specs.World.{World as Seen, variable_at, implicit_at};
+ghost use Rattle.reql_value_spec.specs.Meaning.{bound as bound_to, table_of};
+ghost use Rattle.reql_value_spec.specs.Meant.{Meant};
+ghost use Rattle.reql_value_spec.specs.World.{World as Seen, variable_at, implicit_at};
 ghost use Rattle.reql_operand.specs.Seen.{meant};
 ghost use Rattle.reql_operand.specs.Tables.{seen};
-ghost use Rattle.reql_sense.specs.Bound.{bound};
+ghost use Rattle.reql_term_analysis.specs.Bound.{bound};
 ghost use Rattle.reql_eval.specs.Taken.{out_of_order as out_of_order_of};
 
 use reql_datum::Fault;
 use reql_operand::{Value, World, misplaced_order, sized, table_at};
-use reql_sense::{Vars, find, implicit};
 use reql_term::TableView;
+use reql_term_analysis::{Vars, find, implicit};
 use std::alloc::Global;
 
 /// The value of a variable, within the limits.

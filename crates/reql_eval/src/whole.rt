@@ -3,16 +3,16 @@ ghost use Rattle.std.specs.Prelude.{map};
 ghost use Rattle.reql_datum.specs.Outcome.{Gives};
 ghost use Rattle.reql_datum.specs.View.{plain};
 ghost use Rattle.reql_term.specs.View.{form_of};
-ghost use Rattle.reql_value.specs.Meaning.{value, function_value};
+ghost use Rattle.reql_value_spec.specs.Meaning.{value, function_value};
 ghost use Rattle.reql_operand.specs.Seen.{meant};
 ghost use Rattle.reql_operand.specs.Tables.{seen};
-ghost use Rattle.reql_sense.specs.Bound.{bound};
+ghost use Rattle.reql_term_analysis.specs.Bound.{bound};
 
 use crate::cycle::{eval_term, give_to};
 use reql_datum::{Datum, Fault};
 use reql_operand::{Value, World};
-use reql_sense::{Vars, settled};
 use reql_term::{TableView, Term};
+use reql_term_analysis::{Vars, settled};
 use std::alloc::Global;
 
 /// What a term gives, or its first fault.

@@ -10,13 +10,13 @@ use Rattle.reql_datum.specs.View.{plain}
 use Rattle.reql_term.specs.Views.{Document, Index, documents_in}
 use Rattle.reql_feed_limit.specs.Seen.{seen}
 use Rattle.reql_feed_limit.specs.declared.element.Element as code
-use Rattle.reql_value.specs.Index.{index_list}
-use Rattle.reql_feed_law.specs.Items.{limit_items}
-use Rattle.reql_feed_law.specs.Value as law
+use Rattle.reql_value_spec.specs.Index.{index_list}
+use Rattle.reql_feed_spec.specs.Items.{limit_items}
+use Rattle.reql_feed_spec.specs.Value as law
 use Rattle.reql_table.specs.Keys.{pairs_of}
 use Rattle.reql_table.specs.Seen.{Standing, documents_of, numbered_of}
 use Rattle.reql_table.specs.Trees.{index_at, has_tree, tree_pairs}
-use Rattle.reql_write_law.specs.Treated.{Changed}
+use Rattle.reql_write_spec.specs.Treated.{Changed}
 use Rattle.reql_feed_limit.specs.Feed.{Feed, Stands, Shows, KeepsTree, IsTreeOf, IsItsTree, ArePrintable, entries_of, limit_of, told}
 use Rattle.reql_feed_limit.specs.Items.{Item, Placed, item, deleted, inserted, folded}
 use Rattle.reql_feed_limit.specs.Order.{Order, IsSingle, first_in, pairs_in, entries_in, spot_of}

@@ -12,8 +12,8 @@ use Rattle.reql_datum.specs.Plain.{Plain, low, array, boolean, null, number, obj
 use Rattle.reql_datum.specs.Total.{order_total}
 use Rattle.reql_rules.specs.Sorting.{into_place, sorted}
 use Rattle.reql_term.specs.Views.{Document, Entry, Index, entry_order, is_above, is_below, primary, directed}
-use Rattle.reql_value.specs.Index.{entries, entries_of_answer, index_value, document_entries, index_list}
-use Rattle.reql_feed_law.specs.Watched.{Part, whole, between, lies_in}
+use Rattle.reql_value_spec.specs.Index.{entries, entries_of_answer, index_value, document_entries, index_list}
+use Rattle.reql_feed_spec.specs.Watched.{Part, whole, between, lies_in}
 use Rattle.reql_table.specs.Keys.{key_of, pair_of, pairs_of, entry_in, before as before_all, after as after_every}
 use Rattle.reql_feed_limit.specs.Bounds.{before, in_bounds}
 use Rattle.reql_feed_limit.specs.Feed.{limit_by}

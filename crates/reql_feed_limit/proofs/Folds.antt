@@ -6,7 +6,7 @@ use Rattle.reql_datum.specs.Plain.{Plain}
 use Rattle.reql_datum.specs.Order.{order}
 use Rattle.reql_memory.specs.Sorted.{AreRisingBy, find_by, IsHitBy, IsGapBy}
 use Rattle.reql_memory.proofs.Sorted.{find_gap}
-use Rattle.reql_write_law.specs.Treated.{Changed as Change}
+use Rattle.reql_write_spec.specs.Treated.{Changed as Change}
 use Rattle.reql_feed_limit.specs.Selection.{Element, Limit, facing, selection, value, changed}
 use Rattle.reql_feed_limit.specs.Items.{Item, item, folded}
 use Rattle.reql_feed_limit.specs.Differs.{Differs}

@@ -10,7 +10,7 @@ use Rattle.reql_datum.proofs.Laws.{equal_is}
 use Rattle.reql_memory.proofs.Sorted.{rising_put, rising_without, rising_rest, rising_nil, not_later}
 use Rattle.reql_feed_limit.specs.Selection.{Element, Spot, set_by, entered, index_list}
 use Rattle.reql_term.specs.Views.{Index}
-use Rattle.reql_value.specs.Index.{entries}
+use Rattle.reql_value_spec.specs.Index.{entries}
 use Rattle.reql_feed_limit.specs.Order.{entry_pair, spot_of}
 use Rattle.reql_feed_limit.specs.Edits.{with_gone, with_come, edited, pair_at, paired, element_at, Keyed}
 use Rattle.reql_feed_limit.proofs.Maps.{Strict, same_key, find_put, find_low, find_head, itself}

@@ -1,9 +1,9 @@
 -- A limit feed of what a request is read to follow.
 use Rattle.std.proofs.Common.{◌≡◌, Option, Some, None, true, false, sym, ap, ◌∙◌, subst}
 use Rattle.reql_term.specs.declared.view.IndexDef.{IndexDef}
-use Rattle.reql_feed_law.specs.declared.kind.FeedKind.TheVariants as kinds
-use Rattle.reql_law.specs.Table.{Held, is_limit}
-use Rattle.reql_law.specs.declared.command.FeedSpec.{FeedSpec}
+use Rattle.reql_feed_spec.specs.declared.kind.FeedKind.TheVariants as kinds
+use Rattle.reql_table_spec.specs.Table.{Held, is_limit}
+use Rattle.reql_table_spec.specs.declared.command.FeedSpec.{FeedSpec}
 use Rattle.reql_table.specs.Seen.{Standing}
 use Rattle.reql_feed_read.specs.Follows.{IsKept, IsOrder, IsThere, Reads, held_of, watched}
 use Rattle.reql_feed_read.specs.declared.follows.Follows.{Follows}

@@ -11,7 +11,7 @@ use Rattle.reql_datum.specs.Order.{order}
 use Rattle.reql_datum.specs.Total.{order_total}
 use Rattle.reql_memory.specs.Sorted.{AreRisingBy, find_by, put_by, without_by}
 use Rattle.reql_memory.proofs.Sorted.{rising_without}
-use Rattle.reql_write_law.specs.Treated.{Changed as Change}
+use Rattle.reql_write_spec.specs.Treated.{Changed as Change}
 use Rattle.reql_feed_limit.specs.Selection.{Element, Limit, facing, turned, picked, selection, value, changed, index_list}
 use Rattle.reql_feed_limit.specs.Edits.{with_gone, with_come, edited, pair_at, paired, element_at, Keyed}
 use Rattle.reql_feed_limit.specs.Boundary.{after_all, first_of, next_after, near, kept, kept_element, next_value, Fresh, Later, Turn}

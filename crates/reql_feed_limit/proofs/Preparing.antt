@@ -1,7 +1,7 @@
 -- What a feed prepares is the difference of its value before a change and its value after it.
 use Rattle.std.proofs.Common.{◌≡◌, ℕ, ◌<◌, List, length, Option, Some, None, refl, sym}
 use Rattle.reql_datum.specs.Plain.{Plain}
-use Rattle.reql_write_law.specs.Treated.{Changed as Change}
+use Rattle.reql_write_spec.specs.Treated.{Changed as Change}
 use Rattle.reql_feed_limit.specs.Selection.{Element, Limit, value, selection, facing}
 use Rattle.reql_feed_limit.specs.Items.{Item}
 use Rattle.reql_feed_limit.specs.Differs.{Differs}

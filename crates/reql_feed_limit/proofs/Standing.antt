@@ -6,7 +6,7 @@ use Rattle.std.proofs.lemmas.List.{length-take}
 use Rattle.reql_datum.specs.Plain.{Plain}
 use Rattle.reql_datum.specs.Order.{order}
 use Rattle.reql_memory.specs.Sorted.{AreRisingBy, find_by}
-use Rattle.reql_write_law.specs.Treated.{Changed as Change}
+use Rattle.reql_write_spec.specs.Treated.{Changed as Change}
 use Rattle.reql_feed_limit.specs.Selection.{Element, Limit, value, selection, changed, facing, turned, index_list}
 use Rattle.reql_feed_limit.specs.Items.{Item, Placed, item, deleted, inserted, folded}
 use Rattle.reql_feed_limit.specs.Differs.{Differs, Fits}

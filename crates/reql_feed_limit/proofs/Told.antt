@@ -4,7 +4,7 @@ use Rattle.std.specs.List.{AllByRecursion}
 use Rattle.std.specs.Ordering.{ordering_then}
 use Rattle.reql_datum.specs.Order.{order}
 use Rattle.reql_term.specs.Views.{Entry}
-use Rattle.reql_feed_law.specs.Items.{same_entry, stands_in, gone, moves, limit_items}
+use Rattle.reql_feed_spec.specs.Items.{same_entry, stands_in, gone, moves, limit_items}
 use Rattle.reql_table.specs.Keys.{pair_of, entry_in}
 use Rattle.reql_feed_limit.specs.Feed.{told}
 use Rattle.reql_feed_limit.specs.Items.{same, among, Placed, lacking_from, item}

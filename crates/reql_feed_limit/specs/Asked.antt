@@ -1,8 +1,8 @@
 -- A limit feed of a request.
 use Rattle.std.specs.Prelude.{◌≡◌, Option, Some, None}
-use Rattle.reql_feed_law.specs.Feeds.{Watch, first_of, nothing}
-use Rattle.reql_feed_law.specs.declared.kind.FeedKind.TheVariants as kinds
-use Rattle.reql_law.specs.Table.{Held, feed_of}
+use Rattle.reql_feed_spec.specs.Feeds.{Watch, first_of, nothing}
+use Rattle.reql_feed_spec.specs.declared.kind.FeedKind.TheVariants as kinds
+use Rattle.reql_table_spec.specs.Table.{Held, feed_of}
 use Rattle.reql_feed_limit.specs.Feed.{Feed}
 use Rattle.reql_feed_limit.specs.Order.{Order, selection_of}
 

@@ -6,11 +6,11 @@ use Rattle.reql_memory.specs.Sorted.{AreRisingBy, find_by}
 use Rattle.reql_datum.specs.Members.{find}
 use Rattle.reql_term.specs.Views.{Document, Entry, Index, index_of}
 use Rattle.reql_term.specs.declared.view.IndexDef.{IndexDef}
-use Rattle.reql_feed_law.specs.Items.{Difference}
-use Rattle.reql_feed_law.specs.Value.{changed}
+use Rattle.reql_feed_spec.specs.Items.{Difference}
+use Rattle.reql_feed_spec.specs.Value.{changed}
 use Rattle.reql_table.specs.Seen.{Standing, numbered_of, indexes_of}
 use Rattle.reql_table.specs.Trees.{index_at}
-use Rattle.reql_write_law.specs.Treated.{Changed}
+use Rattle.reql_write_spec.specs.Treated.{Changed}
 use Rattle.reql_feed_limit.specs.Bounds.{Bounds, in_bounds}
 use Rattle.reql_feed_limit.specs.Items.{Item, Placed}
 use Rattle.reql_feed_limit.specs.Order.{Order, first_in, pairs_in, entries_in, bounds_in, spot_of}

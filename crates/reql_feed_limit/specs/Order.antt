@@ -3,9 +3,9 @@ use Rattle.std.specs.Prelude.{List, [], ◌∷◌, map, Bool, true, false, Optio
 use Rattle.reql_datum.specs.Plain.{Plain, low, high}
 use Rattle.reql_rules.specs.Lists.{array_of}
 use Rattle.reql_term.specs.Views.{Document, Entry, Index, primary}
-use Rattle.reql_value.specs.Index.{entries, index_list}
-use Rattle.reql_feed_law.specs.Value.{limit_value}
-use Rattle.reql_feed_law.specs.Watched.{Part, whole, between}
+use Rattle.reql_value_spec.specs.Index.{entries, index_list}
+use Rattle.reql_feed_spec.specs.Value.{limit_value}
+use Rattle.reql_feed_spec.specs.Watched.{Part, whole, between}
 pub use Rattle.reql_feed_read.specs.Order.{Order, IsSingle, kept_by, kept_of, selected_in, selection_of}
 use Rattle.reql_table.specs.Keys.{pair_of, entry_in, low_end, high_end}
 use Rattle.reql_feed_limit.specs.Bounds.{Bounds}

@@ -6,7 +6,7 @@ use Rattle.std.specs.declared.cmp.Ordering.{Ordering}
 use Rattle.reql_datum.specs.Plain.{Plain}
 use Rattle.reql_datum.specs.Order.{order}
 use Rattle.reql_memory.specs.Sorted.{put_by, without_by}
-use Rattle.reql_write_law.specs.Treated.{Changed as Change}
+use Rattle.reql_write_spec.specs.Treated.{Changed as Change}
 
 -- a document as it stands in an index: its pair, and the document
 abbrev pub Element : Type 0

@@ -3,7 +3,7 @@ use Rattle.std.specs.Prelude.{◌≡◌, ℕ, suc, ◌+◌, ◌<◌, ◌≤◌, 
 use Rattle.reql_datum.specs.Plain.{Plain}
 use Rattle.reql_datum.specs.Order.{order}
 use Rattle.reql_memory.specs.Sorted.{AreRisingBy, find_by}
-use Rattle.reql_write_law.specs.Treated.{Changed as Change}
+use Rattle.reql_write_spec.specs.Treated.{Changed as Change}
 use Rattle.reql_feed_limit.specs.Selection.{Element, Limit, value, changed, facing, turned, index_list}
 use Rattle.reql_feed_limit.specs.Edits.{pair_at, element_at}
 use Rattle.reql_feed_limit.specs.Items.{Item, Placed, deleted, folded}

@@ -2,16 +2,16 @@
 ghost use Rattle.std.specs.Prelude.{◌≡◌, true, is_some, ⊤, IfOk, MatchOption};
 ghost use Rattle.reql_feed_limit.specs.Asked.{IsOfOne};
 ghost use Rattle.reql_feed_limit.specs.Feed.{KeepsTree, Shows};
-ghost use Rattle.reql_law.specs.Table.{held, is_limit};
+ghost use Rattle.reql_table_spec.specs.Table.{held, is_limit};
 ghost use Rattle.reql_table.specs.Seen.{documents_of, indexes_of};
 ghost use Rattle.reql_table.specs.Trees.{has_tree};
 
 use crate::feed::LimitFeed;
 use reql_datum::Memory;
 use reql_feed_read::{Follows, kept_index, read};
-use reql_law::FeedSpec;
 use reql_ptree::Steps;
 use reql_table::Table;
+use reql_table_spec::FeedSpec;
 use std::alloc::Global;
 
 impl LimitFeed {

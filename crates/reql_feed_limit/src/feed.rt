@@ -2,8 +2,8 @@
 ghost use Rattle.std.specs.Prelude.{◌≡◌, ◌+◌, ◌*◌, ◌<◌, ◌≤◌, ◌^◌, List, true, length, map, nat_eq, false, is_some, Some, IfOk, IfSome, IfNone, option_map, vec_capacity};
 ghost use Rattle.reql_datum.specs.Members.{find};
 ghost use Rattle.reql_datum.specs.View.{plain};
-ghost use Rattle.reql_feed_law.specs.Feeds.{opened_from};
-ghost use Rattle.reql_feed_law.specs.Items.{limit_items};
+ghost use Rattle.reql_feed_spec.specs.Feeds.{opened_from};
+ghost use Rattle.reql_feed_spec.specs.Items.{limit_items};
 ghost use Rattle.reql_feed_limit.specs.Boundary as law;
 ghost use Rattle.reql_feed_limit.specs.Bounded.{bounds_of};
 ghost use Rattle.reql_feed_limit.specs.Deciding.{Stays, Exchanges, Leaves};

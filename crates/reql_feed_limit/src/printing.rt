@@ -3,8 +3,8 @@ ghost use Rattle.std.specs.Prelude.{◌≡◌, ◌∷◌, ◌^◌, [], map, true
 ghost use Rattle.reql_datum.specs.Members.{put};
 ghost use Rattle.reql_datum.specs.Plain.{text};
 ghost use Rattle.reql_datum.specs.View.{plain};
-ghost use Rattle.reql_feed_law.specs.Feeds.{opened_from};
-ghost use Rattle.reql_feed_law.specs.Shown.{Shows, item_members, opening, or_null, place, shown, type_member, type_of as type_name};
+ghost use Rattle.reql_feed_spec.specs.Feeds.{opened_from};
+ghost use Rattle.reql_feed_spec.specs.Shown.{Shows, item_members, opening, or_null, place, shown, type_member, type_of as type_name};
 ghost use Rattle.reql_feed_limit.specs.Feed.{ArePrintable, difference, document_at, told};
 ghost use Rattle.reql_feed_limit.specs.Seen.{seen, seen_placed, seen_step};
 ghost use Rattle.reql_feed_limit.specs.Stands.{IsWithin};

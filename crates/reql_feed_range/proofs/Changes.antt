@@ -7,19 +7,19 @@ use Rattle.reql_rules.specs.Types.{same}
 use Rattle.reql_bag.specs.Bag.{less_all}
 use Rattle.reql_bag.proofs.Bags.{same_itself, same_is}
 use Rattle.reql_term.specs.Views.{Document}
-use Rattle.reql_value.specs.Index.{plain_view}
-use Rattle.reql_value.specs.Shapes.{IsByDocument}
-use Rattle.reql_value.specs.World.{bare_world}
+use Rattle.reql_value_spec.specs.Index.{plain_view}
+use Rattle.reql_value_spec.specs.Shapes.{IsByDocument}
+use Rattle.reql_value_spec.specs.World.{bare_world}
 use Rattle.reql_table.specs.Seen.{indexes_of}
-use Rattle.reql_feed_law.specs.Feeds.{Feed, Watch, one_key, all_given, nothing, queued, queued_as, differences, squashes}
-use Rattle.reql_feed_law.specs.Items.{Difference, paired, point_items, range_items}
-use Rattle.reql_feed_law.specs.Shown.{Shows, shown, or_null}
-use Rattle.reql_feed_law.specs.Value.{Change, Shape, changed, point_value, contribution_at}
-use Rattle.reql_feed_law.specs.declared.kind.FeedKind.{FeedKind}
-use Rattle.reql_feed_law.proofs.Contributions.{change_of_part}
-use Rattle.reql_feed_law.proofs.Keeping.{shape_is}
-use Rattle.reql_feed_law.proofs.Points.{point_after}
-use Rattle.reql_feed_law.proofs.Watched.{follow_shapes}
+use Rattle.reql_feed_spec.specs.Feeds.{Feed, Watch, one_key, all_given, nothing, queued, queued_as, differences, squashes}
+use Rattle.reql_feed_spec.specs.Items.{Difference, paired, point_items, range_items}
+use Rattle.reql_feed_spec.specs.Shown.{Shows, shown, or_null}
+use Rattle.reql_feed_spec.specs.Value.{Change, Shape, changed, point_value, contribution_at}
+use Rattle.reql_feed_spec.specs.declared.kind.FeedKind.{FeedKind}
+use Rattle.reql_feed_spec.proofs.Contributions.{change_of_part}
+use Rattle.reql_feed_spec.proofs.Keeping.{shape_is}
+use Rattle.reql_feed_spec.proofs.Points.{point_after}
+use Rattle.reql_feed_spec.proofs.Watched.{follow_shapes}
 use Rattle.reql_feed_read.specs.Follows.{shape_of}
 use Rattle.reql_feed_range.specs.Printed.{behind}
 use Rattle.reql_feed_read.specs.declared.shape.RangeShape.{RangeShape}

@@ -4,10 +4,10 @@ use Rattle.std.specs.List.{filter, flat_map, zip}
 use Rattle.reql_datum.specs.Plain.{Plain, low, high, array, boolean, null, number, object, binary, time, text}
 use Rattle.reql_bag.specs.Bag.{in_order}
 use Rattle.reql_term.specs.Views.{Document, Entry, primary, is_above, is_below, values_in, documents_in, beside}
-use Rattle.reql_feed_law.specs.Feeds.{opened_from}
-use Rattle.reql_feed_law.specs.Shown.{Shows, opening}
-use Rattle.reql_feed_law.specs.Value.{Shape, contribution, range_value}
-use Rattle.reql_feed_law.proofs.Contributions.{value_is_union}
+use Rattle.reql_feed_spec.specs.Feeds.{opened_from}
+use Rattle.reql_feed_spec.specs.Shown.{Shows, opening}
+use Rattle.reql_feed_spec.specs.Value.{Shape, contribution, range_value}
+use Rattle.reql_feed_spec.proofs.Contributions.{value_is_union}
 use Rattle.reql_feed_read.specs.Follows.{shape_of}
 use Rattle.reql_feed_read.specs.declared.shape.RangeShape.{RangeShape}
 use Rattle.reql_feed_range.proofs.Changes.{by_document}

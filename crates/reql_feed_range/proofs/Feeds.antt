@@ -9,13 +9,13 @@ use Rattle.reql_memory.specs.Sorted.{AreRisingBy, find_by}
 use Rattle.reql_rules.specs.Types.{same}
 use Rattle.reql_term.specs.Views.{Document}
 use Rattle.reql_term.specs.declared.view.IndexDef.{IndexDef}
-use Rattle.reql_feed_law.specs.Feeds.{Watch, one_key, all_given, nothing, kind_of, opening_items, queued}
-use Rattle.reql_feed_law.specs.Items.{point_items, range_items}
-use Rattle.reql_feed_law.specs.Shown.{shown, or_null}
-use Rattle.reql_feed_law.specs.Value.{contribution_at}
-use Rattle.reql_feed_law.specs.declared.kind.FeedKind.TheVariants as kinds
-use Rattle.reql_law.specs.Table.{Held, feed_of, is_limit}
-use Rattle.reql_law.specs.declared.command.FeedSpec.{FeedSpec}
+use Rattle.reql_feed_spec.specs.Feeds.{Watch, one_key, all_given, nothing, kind_of, opening_items, queued}
+use Rattle.reql_feed_spec.specs.Items.{point_items, range_items}
+use Rattle.reql_feed_spec.specs.Shown.{shown, or_null}
+use Rattle.reql_feed_spec.specs.Value.{contribution_at}
+use Rattle.reql_feed_spec.specs.declared.kind.FeedKind.TheVariants as kinds
+use Rattle.reql_table_spec.specs.Table.{Held, feed_of, is_limit}
+use Rattle.reql_table_spec.specs.declared.command.FeedSpec.{FeedSpec}
 use Rattle.reql_feed_range.specs.Feed.{Keeps, watched_key}
 use Rattle.reql_feed_read.specs.Follows.{held_of, shape_of, watched, IsOrder, Reads}
 use Rattle.reql_feed_range.specs.Printed.{shows, behind}

@@ -6,11 +6,11 @@ use Rattle.reql_datum.specs.declared.fault.Fault.{Fault}
 use Rattle.reql_rules.specs.Lists.{Bytes}
 use Rattle.reql_term.specs.Views.{Document, Index}
 use Rattle.reql_table.specs.Seen.{Standing, documents_of, indexes_of, entries_at}
-use Rattle.reql_value.specs.Index.{plain_view}
-use Rattle.reql_value.specs.Shapes.{answered}
-use Rattle.reql_value.specs.World.{World, View}
-use Rattle.reql_write_law.specs.Treated.{Changed, changed_by}
-use Rattle.reql_feed_law.specs.Value.{is_good, shown_alone}
+use Rattle.reql_value_spec.specs.Index.{plain_view}
+use Rattle.reql_value_spec.specs.Shapes.{answered}
+use Rattle.reql_value_spec.specs.World.{World, View}
+use Rattle.reql_write_spec.specs.Treated.{Changed, changed_by}
+use Rattle.reql_feed_spec.specs.Value.{is_good, shown_alone}
 use Rattle.reql_feed_range.specs.Feed.{coming, rows_given, world_with}
 use Rattle.reql_feed_read.specs.Follows.{shape_of}
 use Rattle.reql_feed_read.specs.Seen.{source_of}

@@ -1,7 +1,7 @@
 -- The printed items of two lists in pairs, one place after another.
 use Rattle.std.proofs.Common.{◌≡◌, ℕ, zero, suc, ◌+◌, ◌<◌, max, List, [], ◌∷◌, ◌++◌, length, drop, slice_get, map, Option, None, refl, sym, ap, ◌∙◌, arith, append_assoc, add-one}
 use Rattle.reql_datum.specs.Plain.{Plain}
-use Rattle.reql_feed_law.specs.Items.{Difference, of_values, paired}
+use Rattle.reql_feed_spec.specs.Items.{Difference, of_values, paired}
 
 right_step : (p : ℕ) (cs : List Plain) → p < length cs → paired [] (drop p cs) ≡ of_values None (slice_get cs p) ∷ paired [] (drop (suc p) cs)
 right_step p [] h = absurd (omega arith)

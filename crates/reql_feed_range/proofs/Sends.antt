@@ -2,8 +2,8 @@
 use denote.Param.Send.{IsSend, sendable}
 use Rattle.std.proofs.Crossing.{crosses}
 use Rattle.reql_datum.proofs.Sends.{name_send}
-use Rattle.reql_write_law.proofs.Sends.{def_send}
-use Rattle.reql_law.proofs.Sends.{spec_send}
+use Rattle.reql_write_spec.proofs.Sends.{def_send}
+use Rattle.reql_table_spec.proofs.Sends.{spec_send}
 use Rattle.reql_feed_read.proofs.Sends.{follows_send}
 use Rattle.reql_feed_range.specs.contracts.feed.RangeFeed as feed
 use Rattle.reql_feed_range.specs.contracts.printed.Printer as printer

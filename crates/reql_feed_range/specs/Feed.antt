@@ -6,13 +6,13 @@ use Rattle.reql_term.specs.Form.{Form}
 use Rattle.reql_term.specs.Views.{Document, Entry, Index, entries_in, primary}
 use Rattle.reql_term.specs.declared.range.Range.{Range}
 use Rattle.reql_term.specs.declared.view.IndexDef.{IndexDef}
-use Rattle.reql_value.specs.Meaning.{value}
-use Rattle.reql_value.specs.Wanted.{to_sequence}
-use Rattle.reql_value.specs.World.{World, View, bare_world}
-use Rattle.reql_write_law.specs.Treated.{Changed}
-use Rattle.reql_feed_law.specs.Feeds.{Watch, one_key}
-use Rattle.reql_law.specs.Table.{is_limit}
-use Rattle.reql_law.specs.declared.command.FeedSpec.{FeedSpec}
+use Rattle.reql_value_spec.specs.Meaning.{value}
+use Rattle.reql_value_spec.specs.Wanted.{to_sequence}
+use Rattle.reql_value_spec.specs.World.{World, View, bare_world}
+use Rattle.reql_write_spec.specs.Treated.{Changed}
+use Rattle.reql_feed_spec.specs.Feeds.{Watch, one_key}
+use Rattle.reql_table_spec.specs.Table.{is_limit}
+use Rattle.reql_table_spec.specs.declared.command.FeedSpec.{FeedSpec}
 use Rattle.reql_feed_read.specs.Follows.{Reads}
 use Rattle.reql_feed_read.specs.declared.follows.Follows.{Follows}
 use Rattle.reql_feed_range.specs.declared.printed.Printer.{Printer}

@@ -2,8 +2,8 @@
 use Rattle.std.specs.Prelude.{[], ◌∷◌, Bool, Option, Some, None}
 use Rattle.reql_datum.specs.Plain.{Plain}
 use Rattle.reql_rules.specs.Lists.{array_of}
-use Rattle.reql_feed_law.specs.Items.{Difference}
-use Rattle.reql_feed_law.specs.Shown.{Shows, shown}
+use Rattle.reql_feed_spec.specs.Items.{Difference}
+use Rattle.reql_feed_spec.specs.Shown.{Shows, shown}
 
 abbrev pub shows : Bool → Bool → Shows
 shows offsets types = record { offsets = offsets; types = types }

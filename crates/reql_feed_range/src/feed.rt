@@ -4,10 +4,10 @@ ghost use Rattle.reql_datum.specs.Order.{order};
 ghost use Rattle.reql_datum.specs.View.{plain};
 ghost use Rattle.reql_memory.specs.Sorted.{AreRisingBy, find_by};
 ghost use Rattle.reql_term.specs.Views.{Document};
-ghost use Rattle.reql_feed_law.specs.Feeds.{kind_of, opening_items, queued};
+ghost use Rattle.reql_feed_spec.specs.Feeds.{kind_of, opening_items, queued};
 ghost use Rattle.reql_feed_range.specs.Feed.{watched_key};
 ghost use Rattle.reql_feed_read.specs.Follows.{Reads, held_of};
-ghost use Rattle.reql_law.specs.Table.{held, feed_of, is_limit};
+ghost use Rattle.reql_table_spec.specs.Table.{held, feed_of, is_limit};
 ghost use Rattle.reql_table.specs.Seen.{documents_of, indexes_of};
 
 use crate::opening::{open_key, open_nothing, open_shape};
@@ -15,8 +15,8 @@ use crate::printed::Printer;
 use crate::telling::{point_change, range_change};
 use reql_datum::{Datum, Items, Memory};
 use reql_feed_read::{Follows, index_copy, kept_index, read, request_copy};
-use reql_law::{FeedKind, FeedSpec};
 use reql_table::{Change, IndexDef, Table};
+use reql_table_spec::{FeedKind, FeedSpec};
 use std::alloc::Global;
 use std::marker::Model;
 
@@ -34,7 +34,7 @@ impl Model for RangeFeed {
     ghost use Rattle.std.specs.Coded.{codes};
     ghost use Rattle.reql_datum.specs.Code.{plain_code, list_code, pairs_code};
     ghost use Rattle.reql_term.specs.FormCode.{form_code};
-    ghost use Rattle.reql_law.specs.Table.{Held};
+    ghost use Rattle.reql_table_spec.specs.Table.{Held};
     ghost use Rattle.reql_feed_range.specs.Feed.{Keeps};
     ghost use Rattle.reql_feed_read.specs.Follows.{held_of};
 

@@ -2,9 +2,9 @@
 ghost use Rattle.std.specs.Prelude.{◌≡◌, [], ◌∷◌, ◌++◌, ◌+◌, ◌<◌, ◌^◌, drop, IfOk, MatchOption, OnSome, List, option_map};
 ghost use Rattle.std.specs.List.{flat_map, zip};
 ghost use Rattle.reql_datum.specs.View.{plain};
-ghost use Rattle.reql_feed_law.specs.Feeds.{one_key, all_given, nothing, opened_from, opening_items};
-ghost use Rattle.reql_feed_law.specs.Shown.{opening, or_null};
-ghost use Rattle.reql_feed_law.specs.Value.{contribution, range_value};
+ghost use Rattle.reql_feed_spec.specs.Feeds.{one_key, all_given, nothing, opened_from, opening_items};
+ghost use Rattle.reql_feed_spec.specs.Shown.{opening, or_null};
+ghost use Rattle.reql_feed_spec.specs.Value.{contribution, range_value};
 ghost use Rattle.reql_feed_range.specs.Feed.{GivesAll};
 ghost use Rattle.reql_feed_read.specs.Follows.{shape_of};
 ghost use Rattle.reql_feed_range.specs.Printed.{shows};
@@ -16,8 +16,8 @@ use crate::printed::Printer;
 use reql_bag::in_order;
 use reql_datum::{Datum, Items, Memory};
 use reql_feed_read::RangeShape;
-use reql_law::FeedKind;
 use reql_table::{Entries, Range, Table, TableView};
+use reql_table_spec::FeedKind;
 use reql_term::Bound;
 use std::alloc::Global;
 

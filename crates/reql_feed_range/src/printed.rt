@@ -2,8 +2,8 @@
 ghost use Rattle.std.specs.Prelude.{◌≡◌, [], ◌∷◌, ◌++◌, codes, map, IfOk, OnOk, option_map};
 ghost use Rattle.reql_datum.specs.Members.{put as put_of};
 ghost use Rattle.reql_datum.specs.View.{plain};
-ghost use Rattle.reql_feed_law.specs.Items.{of_values, paired};
-ghost use Rattle.reql_feed_law.specs.Shown.{shown, opening, or_null as or_null_of, type_of};
+ghost use Rattle.reql_feed_spec.specs.Items.{of_values, paired};
+ghost use Rattle.reql_feed_spec.specs.Shown.{shown, opening, or_null as or_null_of, type_of};
 ghost use Rattle.reql_feed_range.specs.Printed.{shows, behind};
 ghost use Rattle.reql_rules.specs.Places.{counted_as as counted_as_of};
 ghost use Rattle.reql_rules.specs.Lists.{array_of};

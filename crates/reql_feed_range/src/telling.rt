@@ -2,9 +2,9 @@
 ghost use Rattle.std.specs.Prelude.{◌≡◌, [], ◌&&◌, not, map, IfOk, Some, None, option_map, if◌then◌else◌};
 ghost use Rattle.reql_datum.specs.View.{plain};
 ghost use Rattle.reql_rules.specs.Types.{same};
-ghost use Rattle.reql_feed_law.specs.Items.{point_items, range_items, present};
-ghost use Rattle.reql_feed_law.specs.Shown.{shown, or_null as or_null_of};
-ghost use Rattle.reql_feed_law.specs.Value.{contribution_at};
+ghost use Rattle.reql_feed_spec.specs.Items.{point_items, range_items, present};
+ghost use Rattle.reql_feed_spec.specs.Shown.{shown, or_null as or_null_of};
+ghost use Rattle.reql_feed_spec.specs.Value.{contribution_at};
 ghost use Rattle.reql_feed_read.specs.Follows.{shape_of};
 ghost use Rattle.reql_feed_range.specs.Printed.{shows, behind};
 

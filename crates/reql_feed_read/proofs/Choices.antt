@@ -7,14 +7,14 @@ use Rattle.reql_datum.specs.declared.fault.Fault.{Fault}
 use Rattle.reql_datum.specs.declared.fault.Fault.TheVariants.{QueryLogic, NonExistence, ResourceLimit, OpFailed, User, Empty, Memory}
 use Rattle.reql_rules.specs.Lists.{Bytes}
 use Rattle.reql_term.specs.Form.{Form, named_of}
-use Rattle.reql_law.specs.Followed.{options, closed_options}
+use Rattle.reql_table_spec.specs.Followed.{options, closed_options}
 use Rattle.reql_operand.specs.Seen.{all_chosen, meant}
 use Rattle.reql_operand.specs.declared.value.Choice.{Choice}
 use Rattle.reql_operand.specs.declared.value.Value.{Value}
 use Rattle.reql_operand.specs.declared.value.Arg.TheVariants as arg
-use Rattle.reql_value.specs.Meant.{Meant, Options, given}
-use Rattle.reql_value.specs.World.{bare_world}
-use Rattle.reql_value.specs.Wanted.{left_is_open, right_is_open}
+use Rattle.reql_value_spec.specs.Meant.{Meant, Options, given}
+use Rattle.reql_value_spec.specs.World.{bare_world}
+use Rattle.reql_value_spec.specs.Wanted.{left_is_open, right_is_open}
 use Rattle.reql_feed_read.specs.Asked.{closed_meaning, open_sides, sides_in}
 
 abbrev all_closed : List (Bytes × Form) → Answer Options

@@ -7,8 +7,8 @@ use Rattle.reql_datum.specs.Plain.{Plain}
 use Rattle.reql_datum.specs.declared.fault.Fault.{Fault}
 use Rattle.reql_rules.specs.Lists.{Bytes, each}
 use Rattle.reql_term.specs.Form.{Form, forms_of}
-use Rattle.reql_law.specs.Followed.{closed_value}
-use Rattle.reql_law.specs.Indexes.{Indexes}
+use Rattle.reql_table_spec.specs.Followed.{closed_value}
+use Rattle.reql_table_spec.specs.Indexes.{Indexes}
 use Rattle.reql_feed_read.specs.Shapes.{given, is_slot}
 use Rattle.reql_feed_read.specs.Source.{Places, Source, holds, values_by, everything, keys_over, source_in, first_source}
 use Rattle.reql_feed_read.proofs.Choices.{fails_on}

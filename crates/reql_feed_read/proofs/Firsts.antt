@@ -3,8 +3,8 @@ use Rattle.std.proofs.Common.{◌≡◌, ℕ, zero, suc, ◌<◌, List, [], ◌�
 use Rattle.reql_datum.specs.Members.{find}
 use Rattle.reql_rules.specs.Lists.{Bytes}
 use Rattle.reql_term.specs.Form.{Form, weight, list_weight, fields_weight, forms_of, named_of}
-use Rattle.reql_feed_law.specs.Kept.{are_free}
-use Rattle.reql_law.specs.Followed.{options, index_in, literal_index, first_index, shape_index}
+use Rattle.reql_feed_spec.specs.Kept.{are_free}
+use Rattle.reql_table_spec.specs.Followed.{options, index_in, literal_index, first_index, shape_index}
 use Rattle.reql_feed_read.specs.Shapes.{slot_in, part_slot, shape_slot, stage_slot, agrees}
 
 pub form_below : (fs : List Form) (i : ℕ) (f : Form) → slice_get fs i ≡ Some f → weight f < list_weight fs

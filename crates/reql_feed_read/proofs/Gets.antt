@@ -4,7 +4,7 @@ use Rattle.reql_datum.specs.Plain.{Plain}
 use Rattle.reql_rules.specs.Lists.{Bytes}
 use Rattle.reql_term.specs.Form.{Form, literal, several, keyed, variable, implicit, function, slot, operation, Forms, forms_of, named_of}
 use Rattle.reql_term.specs.declared.op.Op.{Op}
-use Rattle.reql_law.specs.Followed.{arguments, is_get, closed_value, key_of_get, point_key}
+use Rattle.reql_table_spec.specs.Followed.{arguments, is_get, closed_value, key_of_get, point_key}
 use Rattle.reql_feed_read.specs.Shapes.{as_key, given, is_slot}
 
 pub arguments_are : (fs : List Form) → arguments (forms_of fs) ≡ fs

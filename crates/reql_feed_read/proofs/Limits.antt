@@ -6,13 +6,13 @@ use Rattle.reql_rules.specs.Faults.{misplaced}
 use Rattle.reql_rules.specs.Types.{same_text}
 use Rattle.reql_term.specs.Views.{Index}
 use Rattle.reql_term.specs.declared.view.IndexDef.{IndexDef}
-use Rattle.reql_feed_law.specs.Feeds.{Watch, nothing}
-use Rattle.reql_feed_law.specs.Kept.{Kept, by_primary, watch_of}
-use Rattle.reql_feed_law.specs.declared.kind.FeedKind.{FeedKind}
-use Rattle.reql_feed_law.specs.declared.kind.FeedKind.TheVariants as kinds
-use Rattle.reql_law.specs.Followed.{Ordered, first_by, first_shape, is_asked, is_same, kept_order, or_nothing, order_in, shape_by}
-use Rattle.reql_law.specs.Indexes.{Indexes}
-use Rattle.reql_law.specs.declared.command.FeedSpec.{FeedSpec}
+use Rattle.reql_feed_spec.specs.Feeds.{Watch, nothing}
+use Rattle.reql_feed_spec.specs.Kept.{Kept, by_primary, watch_of}
+use Rattle.reql_feed_spec.specs.declared.kind.FeedKind.{FeedKind}
+use Rattle.reql_feed_spec.specs.declared.kind.FeedKind.TheVariants as kinds
+use Rattle.reql_table_spec.specs.Followed.{Ordered, first_by, first_shape, is_asked, is_same, kept_order, or_nothing, order_in, shape_by}
+use Rattle.reql_table_spec.specs.Indexes.{Indexes}
+use Rattle.reql_table_spec.specs.declared.command.FeedSpec.{FeedSpec}
 use Rattle.reql_feed_read.specs.Asked.{by_asked, first_in, kept_if, kept_index, kept_ordered, watch_if}
 use Rattle.reql_feed_read.specs.Follows.{OrderReads, Reads, held_of, indexes_in, watched}
 use Rattle.reql_feed_read.specs.Shapes.{given}

@@ -6,9 +6,9 @@ use Rattle.reql_rules.specs.Lists.{Bytes}
 use Rattle.reql_rules.specs.Types.{same_text}
 use Rattle.reql_term.specs.Views.{Index, index_of}
 use Rattle.reql_term.specs.declared.view.IndexDef.{IndexDef}
-use Rattle.reql_law.specs.Indexes.{Indexes}
-use Rattle.reql_law.specs.Table.{Held, held, held_at, held_by}
-use Rattle.reql_law.specs.declared.command.FeedSpec.{FeedSpec}
+use Rattle.reql_table_spec.specs.Indexes.{Indexes}
+use Rattle.reql_table_spec.specs.Table.{Held, held, held_at, held_by}
+use Rattle.reql_table_spec.specs.declared.command.FeedSpec.{FeedSpec}
 use Rattle.reql_feed_read.specs.Follows.{held_of}
 
 if_some : (b : Bool) (h : Held) (o : Option Held) → o ≡ (if b then None else Some h) → is_some o ≡ true → o ≡ Some h

@@ -5,9 +5,9 @@ use Rattle.reql_rules.specs.Lists.{Bytes}
 use Rattle.reql_rules.specs.Types.{same_text}
 use Rattle.reql_term.specs.Views.{Index, index_of}
 use Rattle.reql_term.specs.declared.view.IndexDef.{IndexDef}
-use Rattle.reql_feed_law.specs.Feeds.{Watch, first_of, nothing}
-use Rattle.reql_feed_law.specs.declared.kind.FeedKind.TheVariants as kinds
-use Rattle.reql_law.specs.Followed.{Ordered}
+use Rattle.reql_feed_spec.specs.Feeds.{Watch, first_of, nothing}
+use Rattle.reql_feed_spec.specs.declared.kind.FeedKind.TheVariants as kinds
+use Rattle.reql_table_spec.specs.Followed.{Ordered}
 use Rattle.reql_feed_read.specs.Asked.{kept_index, kept_ordered, watch_if}
 use Rattle.reql_feed_read.specs.Follows.{IsKept, IsOrder, OrderReads, indexes_in}
 use Rattle.reql_feed_read.specs.Order as the

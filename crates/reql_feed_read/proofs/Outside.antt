@@ -19,25 +19,25 @@ use Rattle.reql_term.specs.Table.{takes, way_of}
 use Rattle.reql_term.specs.Views.{Document, Entry, Index, primary, documents_in, all_of, entry_order, is_above, is_below}
 use Rattle.reql_term.specs.declared.op.Op.{Op}
 use Rattle.reql_term.specs.declared.op.Op.TheVariants as op
-use Rattle.reql_value.specs.Fields.{has_fields_rule, with_fields, by_patterns, merge_rule}
-use Rattle.reql_value.specs.Index.{entries, document_entries, index_list, plain_view}
-use Rattle.reql_value.specs.Meaning.{settled, sense, form_senses, named_senses, table_of, is_fit, sense_by, sense_of}
-use Rattle.reql_value.specs.Meant.{Meant, stream, selection, table, Bounds, slice_between, some_rows, bounded, Given, given, Calls, Options, Rule}
-use Rattle.reql_value.specs.Sense.{Sense, plain, func, sorter, raiser, value, argument, arguments, option, default_option, options, calls_of, Optional, taking, strict}
-use Rattle.reql_value.specs.Sequenced.{like, alike, like_first, alike_first, sized, on_groups, by_groups}
-use Rattle.reql_value.specs.Sequences.{map_rule, filter_rule}
-use Rattle.reql_value.specs.Shapes.{answered, is_stage, over}
-use Rattle.reql_value.specs.Stages.{StageBy, unless, map_stage, filter_stage, pattern_stage, merge_stage, having_stage, with_fields_stage, IsStage}
-use Rattle.reql_value.specs.Table.{rule_of}
-use Rattle.reql_value.specs.Tables.{key_if, may_bound, between_rule, get_all_rule, entries_by}
-use Rattle.reql_value.specs.Wanted.{to_sequence, as_data, index_text, left_is_open, right_is_open}
-use Rattle.reql_value.specs.World.{World, View, view_at, entries_named, bare_world}
-use Rattle.reql_value.proofs.Stages.{go_by_element}
-use Rattle.reql_feed_law.specs.Watched.{Part, between}
-use Rattle.reql_feed_law.proofs.Sources.{same_name, same_names, bounds_of, between_given}
-use Rattle.reql_law.specs.Followed.{closed_value, closed_options, arguments as parts, options as named_parts, index_by, index_in, is_between, bounds, part_between, part_of}
-use Rattle.reql_law.specs.Indexes.{Indexes}
-use Rattle.reql_law.proofs.Closed.{then_ok, if_ok, same_ok, IsLikeBare, like_bare, ClosedArgument, closed_argument, closed_key, closed_given, text_named}
+use Rattle.reql_value_spec.specs.Fields.{has_fields_rule, with_fields, by_patterns, merge_rule}
+use Rattle.reql_value_spec.specs.Index.{entries, document_entries, index_list, plain_view}
+use Rattle.reql_value_spec.specs.Meaning.{settled, sense, form_senses, named_senses, table_of, is_fit, sense_by, sense_of}
+use Rattle.reql_value_spec.specs.Meant.{Meant, stream, selection, table, Bounds, slice_between, some_rows, bounded, Given, given, Calls, Options, Rule}
+use Rattle.reql_value_spec.specs.Sense.{Sense, plain, func, sorter, raiser, value, argument, arguments, option, default_option, options, calls_of, Optional, taking, strict}
+use Rattle.reql_value_spec.specs.Sequenced.{like, alike, like_first, alike_first, sized, on_groups, by_groups}
+use Rattle.reql_value_spec.specs.Sequences.{map_rule, filter_rule}
+use Rattle.reql_value_spec.specs.Shapes.{answered, is_stage, over}
+use Rattle.reql_value_spec.specs.Stages.{StageBy, unless, map_stage, filter_stage, pattern_stage, merge_stage, having_stage, with_fields_stage, IsStage}
+use Rattle.reql_value_spec.specs.Table.{rule_of}
+use Rattle.reql_value_spec.specs.Tables.{key_if, may_bound, between_rule, get_all_rule, entries_by}
+use Rattle.reql_value_spec.specs.Wanted.{to_sequence, as_data, index_text, left_is_open, right_is_open}
+use Rattle.reql_value_spec.specs.World.{World, View, view_at, entries_named, bare_world}
+use Rattle.reql_value_spec.proofs.Stages.{go_by_element}
+use Rattle.reql_feed_spec.specs.Watched.{Part, between}
+use Rattle.reql_feed_spec.proofs.Sources.{same_name, same_names, bounds_of, between_given}
+use Rattle.reql_table_spec.specs.Followed.{closed_value, closed_options, arguments as parts, options as named_parts, index_by, index_in, is_between, bounds, part_between, part_of}
+use Rattle.reql_table_spec.specs.Indexes.{Indexes}
+use Rattle.reql_table_spec.proofs.Closed.{then_ok, if_ok, same_ok, IsLikeBare, like_bare, ClosedArgument, closed_argument, closed_key, closed_given, text_named}
 use Rattle.reql_feed_read.specs.Asked.{names_by, part_in}
 use Rattle.reql_feed_read.specs.Shapes.{given as found}
 use Rattle.reql_feed_read.specs.Source.{Places, Source, in_part, at_keys, holds, values_by, may_hold, everything, is_get_all, keys_over, keys_in, places_in, placed, index_source, base_source, source_in, first_source, LeavesOut}

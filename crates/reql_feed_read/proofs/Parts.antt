@@ -4,8 +4,8 @@ use Rattle.reql_datum.specs.Members.{find}
 use Rattle.reql_datum.specs.Plain.{Plain}
 use Rattle.reql_rules.specs.Lists.{Bytes}
 use Rattle.reql_term.specs.Form.{Form, named_of}
-use Rattle.reql_feed_law.specs.Watched.{Part}
-use Rattle.reql_law.specs.Followed.{options, index_in, literal_index}
+use Rattle.reql_feed_spec.specs.Watched.{Part}
+use Rattle.reql_table_spec.specs.Followed.{options, index_in, literal_index}
 use Rattle.reql_feed_read.specs.Asked.{names_by, bottomed}
 
 options_are : (ms : List (Bytes × Form)) → options (named_of ms) ≡ ms

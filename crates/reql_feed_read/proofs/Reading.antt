@@ -11,11 +11,11 @@ use Rattle.reql_rules.specs.Types.{same_text, wanted, text_in}
 use Rattle.reql_term.specs.Form.{Form, literal, several, keyed, variable, implicit, function, slot, operation, Forms, no_forms, form, NamedForms, no_named, named}
 use Rattle.reql_term.specs.declared.op.Op.{Op}
 use Rattle.reql_term.specs.declared.op.Op.TheVariants as op
-use Rattle.reql_value.specs.Meant.{Options}
-use Rattle.reql_value.specs.Wanted.{left_is_open, right_is_open}
-use Rattle.reql_feed_law.specs.Shown.{natural, place_of}
-use Rattle.reql_feed_law.specs.Watched.{Part, between}
-use Rattle.reql_law.specs.Followed.{Ordered, arguments, options, closed_options, literal_name, literal_count, index_in, index_by, is_limit, is_order, is_between, bounds, part_between, part_of, direction, only_name, order_index, order_over, order_of, first_over, first_by}
+use Rattle.reql_value_spec.specs.Meant.{Options}
+use Rattle.reql_value_spec.specs.Wanted.{left_is_open, right_is_open}
+use Rattle.reql_feed_spec.specs.Shown.{natural, place_of}
+use Rattle.reql_feed_spec.specs.Watched.{Part, between}
+use Rattle.reql_table_spec.specs.Followed.{Ordered, arguments, options, closed_options, literal_name, literal_count, index_in, index_by, is_limit, is_order, is_between, bounds, part_between, part_of, direction, only_name, order_index, order_over, order_of, first_over, first_by}
 use Rattle.reql_feed_read.specs.Shapes.{given, is_slot}
 use Rattle.reql_feed_read.specs.Asked.{one_in, two_in, three_in, index_option, only_index, name_in, name_if, direction_in, towards, directed, pointed_in, pointed_if, names_by, bound_in, open_sides, sided, bottomed, are_taken, bounds_in, part_over, part_in, ordered_by, ordered_over, ordered_if, order_in, is_number, counts, first_two, first_in}
 

@@ -5,20 +5,20 @@ use Rattle.reql_datum.specs.Plain.{Plain}
 use Rattle.reql_rules.specs.Faults.{misplaced}
 use Rattle.reql_rules.specs.Lists.{Bytes}
 use Rattle.reql_term.specs.Views.{Document}
-use Rattle.reql_value.specs.Index.{plain_view}
-use Rattle.reql_value.specs.Shapes.{rows_over}
-use Rattle.reql_value.specs.World.{bare_world}
-use Rattle.reql_write_law.specs.Selecting.{slots}
-use Rattle.reql_feed_law.specs.Feeds.{Watch, one_key, all_given, nothing}
-use Rattle.reql_feed_law.specs.Value.{Shape}
-use Rattle.reql_feed_law.specs.Kept.{Kept, by_key, by_shape, of_no_kind, watch_of, is_shape}
-use Rattle.reql_feed_law.specs.declared.kind.FeedKind.TheVariants as kinds
-use Rattle.reql_feed_law.proofs.Sources.{same_names}
-use Rattle.reql_law.specs.Followed.{followed, or_nothing, shape_by, point_key, shape_index, is_same, first_slot}
-use Rattle.reql_law.specs.Indexes.{Indexes}
-use Rattle.reql_law.specs.Reading.{asked}
-use Rattle.reql_law.specs.declared.command.FeedSpec.{FeedSpec}
-use Rattle.reql_law.proofs.Reading.{ranges, named_ranges}
+use Rattle.reql_value_spec.specs.Index.{plain_view}
+use Rattle.reql_value_spec.specs.Shapes.{rows_over}
+use Rattle.reql_value_spec.specs.World.{bare_world}
+use Rattle.reql_write_spec.specs.Selecting.{slots}
+use Rattle.reql_feed_spec.specs.Feeds.{Watch, one_key, all_given, nothing}
+use Rattle.reql_feed_spec.specs.Value.{Shape}
+use Rattle.reql_feed_spec.specs.Kept.{Kept, by_key, by_shape, of_no_kind, watch_of, is_shape}
+use Rattle.reql_feed_spec.specs.declared.kind.FeedKind.TheVariants as kinds
+use Rattle.reql_feed_spec.proofs.Sources.{same_names}
+use Rattle.reql_table_spec.specs.Followed.{followed, or_nothing, shape_by, point_key, shape_index, is_same, first_slot}
+use Rattle.reql_table_spec.specs.Indexes.{Indexes}
+use Rattle.reql_table_spec.specs.Reading.{asked}
+use Rattle.reql_table_spec.specs.declared.command.FeedSpec.{FeedSpec}
+use Rattle.reql_table_spec.proofs.Reading.{ranges, named_ranges}
 use Rattle.reql_feed_read.specs.Shapes.{agrees, given, shape_slot}
 use Rattle.reql_feed_read.proofs.Slots.{shape_at, no_shape}
 

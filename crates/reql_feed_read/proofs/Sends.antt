@@ -3,7 +3,7 @@ use denote.Param.Send.{IsSend, sendable}
 use Rattle.std.proofs.Crossing.{crosses}
 use Rattle.reql_datum.proofs.Sends.{datum_send, items_send, name_send}
 use Rattle.reql_table.proofs.Sends.{table_send}
-use Rattle.reql_write_law.proofs.Sends.{body_send, def_send}
+use Rattle.reql_write_spec.proofs.Sends.{body_send, def_send}
 use Rattle.reql_feed_read.specs.contracts.follows.Follows as follows
 use Rattle.reql_feed_read.specs.contracts.order.Order as order
 use Rattle.reql_feed_read.specs.contracts.order.Part as part

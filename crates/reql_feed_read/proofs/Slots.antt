@@ -3,8 +3,8 @@ use Rattle.std.proofs.Common.{◌≡◌, ℕ, nat_eq, [], Bool, true, false, ◌
 use Rattle.reql_term.specs.Form.{Form, literal, several, keyed, variable, implicit, function, slot, operation, Forms, no_forms, form}
 use Rattle.reql_term.specs.declared.op.Op.{Op}
 use Rattle.reql_term.specs.declared.op.Op.TheVariants as op
-use Rattle.reql_value.specs.Shapes.{is_stage, is_part}
-use Rattle.reql_feed_law.specs.Kept.{is_shape, on_shape, is_table, on_table, are_free, fields_free}
+use Rattle.reql_value_spec.specs.Shapes.{is_stage, is_part}
+use Rattle.reql_feed_spec.specs.Kept.{is_shape, on_shape, is_table, on_table, are_free, fields_free}
 use Rattle.reql_feed_read.specs.Shapes.{slot_in, part_slot, shape_slot, stage_slot}
 
 abbrev pub is_at : Option ℕ → ℕ → Bool

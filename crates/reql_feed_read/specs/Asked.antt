@@ -13,16 +13,16 @@ use Rattle.reql_term.specs.Table.{takes}
 use Rattle.reql_term.specs.Views.{Index}
 use Rattle.reql_term.specs.declared.op.Op.{Op}
 use Rattle.reql_term.specs.declared.op.Op.TheVariants as op
-use Rattle.reql_value.specs.Meaning.{value}
-use Rattle.reql_value.specs.Meant.{Meant, Options}
-use Rattle.reql_value.specs.Tables.{key_if, may_bound}
-use Rattle.reql_value.specs.Wanted.{left_is_open, right_is_open}
-use Rattle.reql_value.specs.World.{bare_world}
-use Rattle.reql_feed_law.specs.Feeds.{Watch, nothing}
-use Rattle.reql_feed_law.specs.Kept.{Kept, by_index, by_primary, is_free, watch_of}
-use Rattle.reql_feed_law.specs.Watched.{Part, whole, between}
-use Rattle.reql_feed_law.specs.declared.kind.FeedKind.{FeedKind}
-use Rattle.reql_law.specs.Followed.{Ordered, options, index_in, index_by, closed_value, closed_options, is_same, is_limit, is_order, is_between}
+use Rattle.reql_value_spec.specs.Meaning.{value}
+use Rattle.reql_value_spec.specs.Meant.{Meant, Options}
+use Rattle.reql_value_spec.specs.Tables.{key_if, may_bound}
+use Rattle.reql_value_spec.specs.Wanted.{left_is_open, right_is_open}
+use Rattle.reql_value_spec.specs.World.{bare_world}
+use Rattle.reql_feed_spec.specs.Feeds.{Watch, nothing}
+use Rattle.reql_feed_spec.specs.Kept.{Kept, by_index, by_primary, is_free, watch_of}
+use Rattle.reql_feed_spec.specs.Watched.{Part, whole, between}
+use Rattle.reql_feed_spec.specs.declared.kind.FeedKind.{FeedKind}
+use Rattle.reql_table_spec.specs.Followed.{Ordered, options, index_in, index_by, closed_value, closed_options, is_same, is_limit, is_order, is_between}
 use Rattle.reql_feed_read.specs.Shapes.{given, is_slot}
 
 -- ---- arguments and options by their number

@@ -4,19 +4,19 @@ use Rattle.reql_datum.specs.Members.{find}
 use Rattle.reql_datum.specs.View.{plain}
 use Rattle.reql_term.specs.Views.{index_of}
 use Rattle.reql_term.specs.declared.view.IndexDef.{IndexDef}
-use Rattle.reql_value.specs.Index.{plain_view}
-use Rattle.reql_value.specs.Shapes.{rows_over}
-use Rattle.reql_value.specs.World.{bare_world}
+use Rattle.reql_value_spec.specs.Index.{plain_view}
+use Rattle.reql_value_spec.specs.Shapes.{rows_over}
+use Rattle.reql_value_spec.specs.World.{bare_world}
 use Rattle.reql_table.specs.Seen.{Standing, indexes_of}
-use Rattle.reql_feed_law.specs.Feeds.{Watch, one_key, all_given, first_of, nothing}
-use Rattle.reql_feed_law.specs.Kept.{watch_of}
-use Rattle.reql_feed_law.specs.Value.{Shape}
-use Rattle.reql_feed_law.specs.declared.kind.FeedKind.{FeedKind}
-use Rattle.reql_feed_law.specs.declared.kind.FeedKind.TheVariants as kinds
-use Rattle.reql_law.specs.Followed.{followed}
-use Rattle.reql_law.specs.Indexes.{Indexes}
-use Rattle.reql_law.specs.Table.{Held}
-use Rattle.reql_law.specs.declared.command.FeedSpec.{FeedSpec}
+use Rattle.reql_feed_spec.specs.Feeds.{Watch, one_key, all_given, first_of, nothing}
+use Rattle.reql_feed_spec.specs.Kept.{watch_of}
+use Rattle.reql_feed_spec.specs.Value.{Shape}
+use Rattle.reql_feed_spec.specs.declared.kind.FeedKind.{FeedKind}
+use Rattle.reql_feed_spec.specs.declared.kind.FeedKind.TheVariants as kinds
+use Rattle.reql_table_spec.specs.Followed.{followed}
+use Rattle.reql_table_spec.specs.Indexes.{Indexes}
+use Rattle.reql_table_spec.specs.Table.{Held}
+use Rattle.reql_table_spec.specs.declared.command.FeedSpec.{FeedSpec}
 use Rattle.reql_feed_read.specs.Order as the
 use Rattle.reql_feed_read.specs.Seen.{order_of}
 use Rattle.reql_feed_read.specs.declared.follows.Follows.{Follows}

@@ -1,10 +1,10 @@
 -- What a limit feed follows: the first so many documents in the order of an index that is no multi index, or of primary keys, between bounds.
 use Rattle.std.specs.Prelude.{◌≡◌, ℕ, Bool, false, Option, Some, None}
 use Rattle.reql_term.specs.Views.{Entry, Index}
-use Rattle.reql_feed_law.specs.Kept.{Kept, by_index, by_primary}
-use Rattle.reql_feed_law.specs.Moving.{selected_by_key}
-use Rattle.reql_feed_law.specs.Value.{Selection, selected}
-use Rattle.reql_feed_law.specs.Watched.{Part, lies_in}
+use Rattle.reql_feed_spec.specs.Kept.{Kept, by_index, by_primary}
+use Rattle.reql_feed_spec.specs.Moving.{selected_by_key}
+use Rattle.reql_feed_spec.specs.Value.{Selection, selected}
+use Rattle.reql_feed_spec.specs.Watched.{Part, lies_in}
 
 -- the index (none: the primary order), the part of it, whether it goes down, and how many
 pub record Order : Type 0 where

@@ -3,8 +3,8 @@ use Rattle.std.specs.Prelude.{Bool, option_map}
 use Rattle.reql_datum.specs.View.{plain}
 use Rattle.reql_rules.specs.Lists.{Bytes}
 use Rattle.reql_term.specs.Views.{index_of}
-use Rattle.reql_feed_law.specs.Watched as law
-use Rattle.reql_law.specs.Followed as reading
+use Rattle.reql_feed_spec.specs.Watched as law
+use Rattle.reql_table_spec.specs.Followed as reading
 use Rattle.reql_feed_read.specs.Order as the
 use Rattle.reql_feed_read.specs.Source as sources
 use Rattle.reql_feed_read.specs.declared.order.Order.{Order}

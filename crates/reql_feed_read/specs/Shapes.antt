@@ -5,13 +5,13 @@ use Rattle.reql_datum.specs.Keys.{is_key}
 use Rattle.reql_datum.specs.Plain.{Plain}
 use Rattle.reql_rules.specs.Lists.{Bytes}
 use Rattle.reql_term.specs.Form.{Form, literal, several, keyed, variable, implicit, function, slot, operation, Forms, no_forms, form}
-use Rattle.reql_value.specs.Meaning.{value}
-use Rattle.reql_value.specs.Shapes.{is_stage, is_part}
-use Rattle.reql_value.specs.Tables.{key_if}
-use Rattle.reql_value.specs.Wanted.{to_datum}
-use Rattle.reql_value.specs.World.{bare_world}
-use Rattle.reql_feed_law.specs.Kept.{are_free, fields_free}
-use Rattle.reql_law.specs.Followed.{is_same}
+use Rattle.reql_value_spec.specs.Meaning.{value}
+use Rattle.reql_value_spec.specs.Shapes.{is_stage, is_part}
+use Rattle.reql_value_spec.specs.Tables.{key_if}
+use Rattle.reql_value_spec.specs.Wanted.{to_datum}
+use Rattle.reql_value_spec.specs.World.{bare_world}
+use Rattle.reql_feed_spec.specs.Kept.{are_free, fields_free}
+use Rattle.reql_table_spec.specs.Followed.{is_same}
 
 abbrev pub slot_in : Form → Option ℕ
 slot_in (slot k) = Some k

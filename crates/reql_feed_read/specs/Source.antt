@@ -9,12 +9,12 @@ use Rattle.reql_term.specs.Form.{Form, operation, Forms, no_forms, form, NamedFo
 use Rattle.reql_term.specs.Views.{Document, Index}
 use Rattle.reql_term.specs.declared.op.Op.{Op}
 use Rattle.reql_term.specs.declared.op.Op.TheVariants as op
-use Rattle.reql_value.specs.Index.{entries, plain_view}
-use Rattle.reql_value.specs.Shapes.{answered, is_stage, rows_over}
-use Rattle.reql_value.specs.World.{bare_world}
-use Rattle.reql_feed_law.specs.Watched.{Part, whole, lies_in}
-use Rattle.reql_law.specs.Followed.{arguments, closed_value, index_in}
-use Rattle.reql_law.specs.Indexes.{Indexes}
+use Rattle.reql_value_spec.specs.Index.{entries, plain_view}
+use Rattle.reql_value_spec.specs.Shapes.{answered, is_stage, rows_over}
+use Rattle.reql_value_spec.specs.World.{bare_world}
+use Rattle.reql_feed_spec.specs.Watched.{Part, whole, lies_in}
+use Rattle.reql_table_spec.specs.Followed.{arguments, closed_value, index_in}
+use Rattle.reql_table_spec.specs.Indexes.{Indexes}
 use Rattle.reql_feed_read.specs.Asked.{names_by, part_in}
 use Rattle.reql_feed_read.specs.Shapes.{given, is_slot}
 

@@ -1,7 +1,7 @@
 // The order that the request of a limit feed follows.
 ghost use Rattle.std.specs.Prelude.{◌≡◌, IfOk, None, Some};
 ghost use Rattle.reql_datum.specs.Members.{find};
-ghost use Rattle.reql_feed_law.specs.declared.kind.FeedKind.TheVariants as kinds;
+ghost use Rattle.reql_feed_spec.specs.declared.kind.FeedKind.TheVariants as kinds;
 ghost use Rattle.reql_feed_read.specs.Asked.{by_asked, first_in, kept_if, kept_index, kept_ordered, watch_if};
 ghost use Rattle.reql_feed_read.specs.Follows.{OrderReads, indexes_in};
 ghost use Rattle.reql_feed_read.specs.Seen.{order_of, ordered_of, part_of};
@@ -12,9 +12,9 @@ use crate::follows::Follows;
 use crate::index::is_same;
 use crate::order::Order;
 use reql_datum::Memory;
-use reql_law::FeedSpec;
 use reql_operand::same_text;
 use reql_table::IndexDef;
+use reql_table_spec::FeedSpec;
 use std::alloc::Global;
 
 // By primary keys.

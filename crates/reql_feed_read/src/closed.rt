@@ -6,22 +6,22 @@ ghost use Rattle.reql_datum.specs.Plain.{Plain};
 ghost use Rattle.reql_datum.specs.View.{plain};
 ghost use Rattle.reql_feed_read.specs.Asked.{as_bound, bound_in, closed_meaning, sides_in};
 ghost use Rattle.reql_feed_read.specs.Shapes.{given};
-ghost use Rattle.reql_law.specs.Followed.{closed_options, options};
+ghost use Rattle.reql_table_spec.specs.Followed.{closed_options, options};
 ghost use Rattle.reql_operand.specs.Seen.{all_chosen, meant};
 ghost use Rattle.reql_term.specs.Form.{named_of};
 ghost use Rattle.reql_term.specs.View.{form_of};
-ghost use Rattle.reql_value.specs.Meaning.{value};
-ghost use Rattle.reql_value.specs.Tables.{key_if, may_bound as may_bound_of};
-ghost use Rattle.reql_value.specs.Wanted.{left_is_open as left_is_open_of, right_is_open as right_is_open_of};
-ghost use Rattle.reql_value.specs.World.{bare_world};
+ghost use Rattle.reql_value_spec.specs.Meaning.{value};
+ghost use Rattle.reql_value_spec.specs.Tables.{key_if, may_bound as may_bound_of};
+ghost use Rattle.reql_value_spec.specs.Wanted.{left_is_open as left_is_open_of, right_is_open as right_is_open_of};
+ghost use Rattle.reql_value_spec.specs.World.{bare_world};
 
 use crate::free::{Scope, is_free};
 use crate::point::{datum_of, nothing};
 use reql_datum::{Datum, Fault, Memory};
 use reql_eval::eval;
 use reql_operand::{Arg, Choice, Value, left_is_open, misplaced, right_is_open};
-use reql_sense::Vars;
 use reql_term::{Term, TermFields};
+use reql_term_analysis::Vars;
 use std::alloc::Global;
 
 fn given_alone(alloc: Global, term: &Term) -> Result<Value, Fault>

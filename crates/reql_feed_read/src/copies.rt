@@ -2,8 +2,8 @@
 ghost use Rattle.std.specs.Prelude.{◌≡◌, IfOk};
 
 use reql_datum::{Memory, Name};
-use reql_law::FeedSpec;
 use reql_table::IndexDef;
+use reql_table_spec::FeedSpec;
 
 fn name_copy(name: &Option<Name>) -> Result<Option<Name>, Memory>
     ensures { IfOk result (λ n. n ≡ name.now) }

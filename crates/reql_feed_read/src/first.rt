@@ -3,7 +3,7 @@ ghost use Rattle.std.specs.Prelude.{◌≡◌, IfOk, None, Some, option_map};
 ghost use Rattle.reql_datum.specs.View.{plain};
 ghost use Rattle.reql_feed_read.specs.Asked.{counts as counts_of, first_in, first_two as first_two_of, is_number as is_number_of, order_in, ordered_if as ordered_if_of, ordered_over as ordered_over_of, two_in};
 ghost use Rattle.reql_feed_read.specs.Seen.{ordered_of, pointed_of};
-ghost use Rattle.reql_law.specs.Followed.{is_limit as is_limit_of, is_order as is_order_of};
+ghost use Rattle.reql_table_spec.specs.Followed.{is_limit as is_limit_of, is_order as is_order_of};
 ghost use Rattle.reql_term.specs.Form.{forms_of, named_of, operation};
 ghost use Rattle.reql_term.specs.View.{form_of};
 

@@ -1,14 +1,14 @@
 // What a request is read to follow.
 ghost use Rattle.std.specs.Prelude.{◌≡◌, [], true, IfOk, None, if◌then◌else◌};
-ghost use Rattle.reql_feed_law.specs.declared.kind.FeedKind.TheVariants as kinds;
+ghost use Rattle.reql_feed_spec.specs.declared.kind.FeedKind.TheVariants as kinds;
 ghost use Rattle.reql_feed_read.specs.Follows.{indexes_in, Reads, shape_of};
 ghost use Rattle.reql_feed_read.specs.Shapes.{agrees, shape_slot as shape_slot_of};
-ghost use Rattle.reql_law.specs.Followed.{shape_index};
+ghost use Rattle.reql_table_spec.specs.Followed.{shape_index};
 ghost use Rattle.reql_table.specs.Seen.{documents_of, indexes_of};
-ghost use Rattle.reql_feed_law.specs.Kept.{is_shape};
-ghost use Rattle.reql_value.specs.Index.{plain_view};
-ghost use Rattle.reql_value.specs.Shapes.{rows_over};
-ghost use Rattle.reql_value.specs.World.{bare_world};
+ghost use Rattle.reql_feed_spec.specs.Kept.{is_shape};
+ghost use Rattle.reql_value_spec.specs.Index.{plain_view};
+ghost use Rattle.reql_value_spec.specs.Shapes.{rows_over};
+ghost use Rattle.reql_value_spec.specs.World.{bare_world};
 
 use crate::asked::read_order;
 use crate::index::names_index;
@@ -18,8 +18,8 @@ use crate::range::shape_slot;
 use crate::shape::RangeShape;
 use crate::source::read_source;
 use reql_datum::{Datum, Memory};
-use reql_law::{FeedKind, FeedSpec};
 use reql_table::{IndexDef, Table};
+use reql_table_spec::{FeedKind, FeedSpec};
 use std::alloc::Global;
 
 /// What a feed follows.

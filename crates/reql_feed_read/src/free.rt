@@ -1,11 +1,11 @@
 // Terms that read no table and no variable from outside.
 ghost use Rattle.std.specs.Prelude.{◌≡◌, ◌∷◌, drop, nat_eq};
 ghost use Rattle.std.specs.List.{list_any};
-ghost use Rattle.reql_feed_law.specs.Kept.{is_free as is_free_of, are_free as are_free_of, fields_free as fields_free_of};
+ghost use Rattle.reql_feed_spec.specs.Kept.{is_free as is_free_of, are_free as are_free_of, fields_free as fields_free_of};
 ghost use Rattle.reql_feed_read.specs.Scopes.{scope_of};
 ghost use Rattle.reql_term.specs.Form.{forms_of, named_of};
 ghost use Rattle.reql_term.specs.View.{form_of};
-ghost use Rattle.reql_value.specs.Depends.{is_bound as is_bound_of, is_single as is_single_of, has_single as has_single_of};
+ghost use Rattle.reql_value_spec.specs.Depends.{is_bound as is_bound_of, is_single as is_single_of, has_single as has_single_of};
 
 use reql_term::{Term, TermFields, Terms};
 

@@ -3,8 +3,8 @@ ghost use Rattle.std.specs.Prelude.{◌≡◌, true, false, Some, IfOk, option_m
 ghost use Rattle.reql_datum.specs.View.{plain};
 ghost use Rattle.reql_feed_read.specs.Follows.{IsThere, held_of};
 ghost use Rattle.reql_feed_read.specs.Shapes.{agrees};
-ghost use Rattle.reql_law.specs.Followed.{shape_index, index_in, literal_index, is_same as is_same_of, first_index};
-ghost use Rattle.reql_law.specs.Table.{held};
+ghost use Rattle.reql_table_spec.specs.Followed.{shape_index, index_in, literal_index, is_same as is_same_of, first_index};
+ghost use Rattle.reql_table_spec.specs.Table.{held};
 ghost use Rattle.reql_table.specs.Seen.{indexes_of};
 ghost use Rattle.reql_term.specs.Form.{literal, forms_of, named_of};
 ghost use Rattle.reql_term.specs.View.{form_of};
@@ -12,9 +12,9 @@ ghost use Rattle.reql_term.specs.Views.{index_of};
 
 use crate::range::is_stage;
 use reql_datum::{Datum, Memory, Name};
-use reql_law::FeedSpec;
 use reql_operand::same_text;
 use reql_table::{IndexDef, Table, TableView};
+use reql_table_spec::FeedSpec;
 use reql_term::{Term, TermFields, Terms};
 
 /// Whether two names of indexes are the same, or both none.

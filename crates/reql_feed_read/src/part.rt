@@ -4,7 +4,7 @@ ghost use Rattle.reql_datum.specs.View.{plain};
 ghost use Rattle.reql_feed_read.specs.Asked.{are_taken as are_taken_of, bound_in, bounds_in, names_by as names_by_of, part_in, part_over as part_over_of, sided as sided_of, topped as topped_of, bottomed as bottomed_of, three_in};
 ghost use Rattle.reql_feed_read.specs.Seen.{part_of};
 ghost use Rattle.reql_feed_read.specs.Shapes.{given};
-ghost use Rattle.reql_law.specs.Followed.{index_in, literal_index, options, is_between as is_between_of};
+ghost use Rattle.reql_table_spec.specs.Followed.{index_in, literal_index, options, is_between as is_between_of};
 ghost use Rattle.reql_term.specs.Form.{forms_of, literal, named_of, operation};
 ghost use Rattle.reql_term.specs.View.{form_of};
 

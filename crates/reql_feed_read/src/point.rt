@@ -5,23 +5,23 @@ ghost use Rattle.reql_datum.specs.Keys.{is_key};
 ghost use Rattle.reql_datum.specs.Outcome.{Gives, Fails};
 ghost use Rattle.reql_datum.specs.Plain.{Plain};
 ghost use Rattle.reql_datum.specs.View.{plain};
-ghost use Rattle.reql_value.specs.Tables.{key_if};
-ghost use Rattle.reql_value.specs.World.{bare_world};
+ghost use Rattle.reql_value_spec.specs.Tables.{key_if};
+ghost use Rattle.reql_value_spec.specs.World.{bare_world};
 ghost use Rattle.reql_operand.specs.Tables.{seen};
 ghost use Rattle.reql_table.specs.Seen.{documents_of, indexes_of, entries_at};
 ghost use Rattle.reql_feed_read.specs.Shapes.{as_key, datum_given, given, is_slot as is_slot_of};
-ghost use Rattle.reql_law.specs.Followed.{arguments, is_get as is_get_of, closed_value, key_of_get, point_key};
+ghost use Rattle.reql_table_spec.specs.Followed.{arguments, is_get as is_get_of, closed_value, key_of_get, point_key};
 ghost use Rattle.reql_term.specs.Form.{operation, forms_of, named_of};
 ghost use Rattle.reql_term.specs.View.{form_of};
 
 use crate::free::{Scope, is_free};
 use reql_datum::{Datum, Fault, Memory};
 use reql_eval::eval;
-use reql_law::FeedSpec;
 use reql_operand::{World, into_datum};
-use reql_sense::Vars;
 use reql_table::Table;
+use reql_table_spec::FeedSpec;
 use reql_term::{Op, Term, TermFields, Terms};
+use reql_term_analysis::Vars;
 use std::alloc::Global;
 
 fn is_get(op: Op) -> bool

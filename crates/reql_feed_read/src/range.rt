@@ -3,7 +3,7 @@ ghost use Rattle.std.specs.Prelude.{◌≡◌};
 ghost use Rattle.reql_feed_read.specs.Shapes.{slot_in as slot_in_of, part_slot as part_slot_of, shape_slot as shape_slot_of, stage_slot as stage_slot_of};
 ghost use Rattle.reql_term.specs.Form.{forms_of};
 ghost use Rattle.reql_term.specs.View.{form_of};
-ghost use Rattle.reql_value.specs.Shapes.{is_stage as is_stage_of, is_part as is_part_of};
+ghost use Rattle.reql_value_spec.specs.Shapes.{is_stage as is_stage_of, is_part as is_part_of};
 
 use crate::free::{Scope, are_free, fields_free};
 use reql_term::{Op, Term, Terms};

@@ -1,6 +1,6 @@
 // Range shapes, as a feed keeps them.
 ghost use Rattle.std.specs.Prelude.{◌≡◌, length, true, IfOk};
-ghost use Rattle.reql_feed_law.specs.Kept.{is_shape};
+ghost use Rattle.reql_feed_spec.specs.Kept.{is_shape};
 ghost use Rattle.reql_feed_read.specs.Seen.{source_of};
 ghost use Rattle.reql_feed_read.specs.Source.{LeavesOut};
 ghost use Rattle.reql_table.specs.Seen.{documents_of, indexes_of};

@@ -1,9 +1,9 @@
 -- What was prepared of a feed, with room for its items.
 use Rattle.std.proofs.Common.{◌≡◌, List, length, Option, Some, None, IfSome, IfNone, refl, sym}
-use Rattle.reql_law.specs.Table.{Held}
+use Rattle.reql_table_spec.specs.Table.{Held}
 use Rattle.reql_queue.specs.Queued.{IsRoomFor}
 use Rattle.reql_term.specs.Views.{Document}
-use Rattle.reql_write_law.specs.Treated.{Changed}
+use Rattle.reql_write_spec.specs.Treated.{Changed}
 use Rattle.reql_feeds.specs.Items.{items_in}
 use Rattle.reql_feeds.specs.Told.{IsAnswered}
 use Rattle.reql_feeds.specs.Turn.{due}

@@ -4,13 +4,13 @@ use Rattle.reql_datum.specs.Plain.{Plain}
 use Rattle.reql_rules.specs.Types.{same}
 use Rattle.reql_bag.proofs.Bags.{same_itself}
 use Rattle.reql_term.specs.Views.{Document}
-use Rattle.reql_feed_law.specs.Feeds.{one_key, queued_as, differences, squashes}
-use Rattle.reql_feed_law.specs.Items.{point_items}
-use Rattle.reql_feed_law.specs.Shown.{or_null}
-use Rattle.reql_feed_law.specs.Value.{changed, point_value}
-use Rattle.reql_feed_law.proofs.Points.{point_after}
-use Rattle.reql_law.specs.Table.{Held, feed_of}
-use Rattle.reql_write_law.specs.Treated.{Changed}
+use Rattle.reql_feed_spec.specs.Feeds.{one_key, queued_as, differences, squashes}
+use Rattle.reql_feed_spec.specs.Items.{point_items}
+use Rattle.reql_feed_spec.specs.Shown.{or_null}
+use Rattle.reql_feed_spec.specs.Value.{changed, point_value}
+use Rattle.reql_feed_spec.proofs.Points.{point_after}
+use Rattle.reql_table_spec.specs.Table.{Held, feed_of}
+use Rattle.reql_write_spec.specs.Treated.{Changed}
 use Rattle.reql_feeds.specs.Only.{IsNothing, IsOfOne, is_other}
 use Rattle.reql_feeds.specs.Turn.{undone, due, Leads}
 

@@ -3,7 +3,7 @@ use Rattle.std.proofs.Common.{◌≡◌, ◌+◌, ◌≤◌, ℕ, List, [], ◌�
 use Rattle.std.specs.List.{All}
 use Rattle.std.proofs.lemmas.List.{length_push}
 use Rattle.std.proofs.lemmas.List.Elements.{All-nil, All-push}
-use Rattle.reql_law.specs.Table.{Held}
+use Rattle.reql_table_spec.specs.Table.{Held}
 use Rattle.reql_feeds.specs.Ahead.{all_ahead, IsDraft}
 use Rattle.reql_feeds.specs.Keeps.{feeds_of}
 use Rattle.reql_feeds.specs.Seen.{all_sized}

@@ -5,11 +5,11 @@ use Rattle.std.specs.List.{All}
 use Rattle.std.specs.Option.{unwrap_or}
 use Rattle.std.proofs.lemmas.List.{get_or_default, get_or-map, length-map, length_push}
 use Rattle.reql_datum.specs.declared.datum.Datum.{Datum}
-use Rattle.reql_law.specs.Table.{Held}
+use Rattle.reql_table_spec.specs.Table.{Held}
 use Rattle.reql_queue.specs.Queued.{Queued, IsRoomFor}
 use Rattle.reql_queue.specs.Record.{all_pushed}
 use Rattle.reql_squash.specs.Told.{items_seen}
-use Rattle.reql_table_machine.specs.Feeds.{push_all}
+use Rattle.reql_table_machine_spec.specs.Feeds.{push_all}
 use Rattle.reql_feeds.specs.Ahead.{next_kept, ahead, all_ahead, IsDraft}
 use Rattle.reql_feeds.specs.Committing.{HaveRoom}
 use Rattle.reql_feeds.specs.Keeps.{Sized, feeds_of, IsSized}

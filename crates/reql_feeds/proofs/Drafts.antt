@@ -6,10 +6,10 @@ use Rattle.std.proofs.lemmas.Bool.{cases_eq}
 use Rattle.std.proofs.lemmas.List.{get_or-set_same, get_or-set_other, length-set, get_or_default}
 use Rattle.reql_datum.specs.Plain.{Plain}
 use Rattle.reql_datum.specs.View.{plain}
-use Rattle.reql_law.specs.Table.{Held}
-use Rattle.reql_table_machine.specs.Feeds.{Feed, push_all}
+use Rattle.reql_table_spec.specs.Table.{Held}
+use Rattle.reql_table_machine_spec.specs.Feeds.{Feed, push_all}
 use Rattle.reql_term.specs.Views.{Document}
-use Rattle.reql_write_law.specs.Treated.{Changed}
+use Rattle.reql_write_spec.specs.Treated.{Changed}
 use Rattle.reql_feeds.specs.Ahead.{Pending, next_kept, ahead, all_ahead, forecast, IsDraft}
 use Rattle.reql_feeds.specs.Committing.{Forecasts}
 use Rattle.reql_feeds.specs.Hearing.{Hears}

@@ -7,11 +7,11 @@ use Rattle.std.proofs.lemmas.List.{map-append, get_or_default}
 use Rattle.reql_datum.specs.Plain.{Plain}
 use Rattle.reql_datum.specs.View.{plain}
 use Rattle.reql_datum.specs.declared.datum.Datum.{Datum}
-use Rattle.reql_law.specs.Table.{Held}
+use Rattle.reql_table_spec.specs.Table.{Held}
 use Rattle.reql_squash.specs.Told.{item_seen, items_seen}
-use Rattle.reql_table_machine.specs.Feeds.{Feed}
+use Rattle.reql_table_machine_spec.specs.Feeds.{Feed}
 use Rattle.reql_term.specs.Views.{Document}
-use Rattle.reql_write_law.specs.Treated.{Changed}
+use Rattle.reql_write_spec.specs.Treated.{Changed}
 use Rattle.reql_feeds.specs.Ahead.{Pending, next_kept, all_ahead, forecast}
 use Rattle.reql_feeds.specs.Hearing.{Hears}
 use Rattle.reql_feeds.specs.Items.{items_in}

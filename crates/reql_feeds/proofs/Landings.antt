@@ -6,8 +6,8 @@ use Rattle.std.proofs.lemmas.List.Elements.{All-nil, All-cons, All-head, All-tai
 use Rattle.std.proofs.lemmas.Bool.{cases_eq}
 use Rattle.std.proofs.lemmas.List.{get_or-set_same, get_or-set_other, length-set, get_or_default, get_or_push, get_or-take, length_push, take_all, take_at, take-take}
 use Rattle.reql_datum.specs.Plain.{Plain}
-use Rattle.reql_law.specs.Table.{Held}
-use Rattle.reql_table_machine.specs.Feeds.{Feed}
+use Rattle.reql_table_spec.specs.Table.{Held}
+use Rattle.reql_table_machine_spec.specs.Feeds.{Feed}
 use Rattle.reql_feeds.specs.Ahead.{next_kept, ahead, all_ahead, IsDraft}
 use Rattle.reql_feeds.specs.Keeps.{feeds_of, IsSized, at_least_one}
 use Rattle.reql_feeds.specs.Seen.{seen, sized, all_sized}

@@ -10,10 +10,10 @@ use Rattle.reql_memory.proofs.Finds.{find_put, find_without, is_equal}
 use Rattle.reql_memory.proofs.Same.{same_found}
 use Rattle.reql_memory.proofs.Sorted.{rising_put, rising_without}
 use Rattle.reql_term.specs.Views.{Document}
-use Rattle.reql_law.specs.Table.{feeding}
-use Rattle.reql_table_machine.specs.Feeds.{after_change, notice}
-use Rattle.reql_write_law.specs.Treated.{Changed}
-use Rattle.reql_feed_law.specs.Value.{changed}
+use Rattle.reql_table_spec.specs.Table.{feeding}
+use Rattle.reql_table_machine_spec.specs.Feeds.{after_change, notice}
+use Rattle.reql_write_spec.specs.Treated.{Changed}
+use Rattle.reql_feed_spec.specs.Value.{changed}
 use Rattle.reql_feeds.specs.Laws.{ChangesLead, OneChangeIsTold, ChangesGoOn, SubscribesOpen, TakesGive}
 use Rattle.reql_feeds.specs.Turn.{done, undone}
 

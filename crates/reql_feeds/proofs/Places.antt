@@ -6,7 +6,7 @@ use Rattle.std.proofs.lemmas.List.{get_or-map, length-map, map-set, set-get_or, 
 use Rattle.std.proofs.lemmas.Bool.{cases_eq}
 use Rattle.reql_datum.specs.Plain.{Plain}
 use Rattle.reql_queue.specs.Queued.{IsRoomFor}
-use Rattle.reql_table_machine.specs.Feeds.{Feed, is_of, find_feed}
+use Rattle.reql_table_machine_spec.specs.Feeds.{Feed, is_of, find_feed}
 use Rattle.reql_feeds.specs.Record.{kept_in}
 use Rattle.reql_feeds.specs.Keeps.{Sized, feeds_of}
 use Rattle.reql_feeds.specs.Seen.{seen, sized, all_sized}

@@ -3,9 +3,9 @@ use Rattle.std.proofs.Common.{◌≡◌, ◌+◌, ◌<◌, ℕ, suc, List, [], �
 use Rattle.std.specs.Prelude.{take, slice_set}
 use Rattle.std.proofs.lemmas.List.{append-nil, take_more_set, length-take-le}
 use Rattle.std.specs.List.{AllByRecursion}
-use Rattle.reql_law.specs.Table.{Held}
+use Rattle.reql_table_spec.specs.Table.{Held}
 use Rattle.reql_term.specs.Views.{Document}
-use Rattle.reql_write_law.specs.Treated.{Changed}
+use Rattle.reql_write_spec.specs.Treated.{Changed}
 use Rattle.reql_feeds.specs.Told.{IsReady, IsStill, IsAnswered, Planned}
 use Rattle.reql_feeds.specs.declared.entry.Entry.{Entry}
 use Rattle.reql_feeds.specs.Planning.{plan_of}

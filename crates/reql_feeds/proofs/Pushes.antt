@@ -1,8 +1,8 @@
 -- Items that are pushed into a record, with the feed as it is kept and as the machine knows it.
 use Rattle.std.proofs.Common.{◌≡◌, ℕ, List, [], ◌∷◌, ◌++◌, length, cond, nat_lt, Bool, true, false, refl, ap, ◌∙◌}
 use Rattle.reql_datum.specs.Plain.{Plain}
-use Rattle.reql_law.specs.Table.{Held}
-use Rattle.reql_table_machine.specs.Feeds.{Feed, push, push_all, dropping}
+use Rattle.reql_table_spec.specs.Table.{Held}
+use Rattle.reql_table_machine_spec.specs.Feeds.{Feed, push, push_all, dropping}
 use Rattle.reql_feeds.specs.Record.{record_of}
 
 module _ {K : Type 0} where

@@ -5,10 +5,10 @@ use Rattle.reql_datum.specs.View.{plain}
 use Rattle.reql_datum.specs.declared.datum.Datum.{Datum}
 use Rattle.reql_queue.specs.Queued.{Queued, pushed}
 use Rattle.reql_queue.specs.Queued as queued
-use Rattle.reql_law.specs.Table.{Held}
+use Rattle.reql_table_spec.specs.Table.{Held}
 use Rattle.reql_queue.specs.Record.{all_pushed, all_shown, queueing}
 use Rattle.reql_queue.proofs.Records.{pushes}
-use Rattle.reql_table_machine.specs.Feeds.{Feed, push, push_all, dropping}
+use Rattle.reql_table_machine_spec.specs.Feeds.{Feed, push, push_all, dropping}
 use Rattle.reql_feeds.specs.Keeps.{at_least_one, IsSized}
 use Rattle.reql_feeds.specs.Record.{record_of}
 use Rattle.reql_feeds.specs.Seen.{seen, sized}

@@ -5,12 +5,12 @@ use Rattle.std.specs.List.{remove}
 use Rattle.std.specs.Option.{is_some}
 use Rattle.reql_datum.specs.View.{plain}
 use Rattle.reql_datum.specs.declared.datum.Datum.{Datum}
-use Rattle.reql_law.specs.Table.{Held}
+use Rattle.reql_table_spec.specs.Table.{Held}
 use Rattle.reql_queue.specs.Queued.{is_none}
 use Rattle.reql_queue.specs.Queued as queued
 use Rattle.reql_queue.specs.Record.{all_shown}
 use Rattle.reql_queue.specs.declared.queue.Taken.{Taken}
-use Rattle.reql_table_machine.specs.Feeds.{is_of, find_feed, has_something, is_none_queued}
+use Rattle.reql_table_machine_spec.specs.Feeds.{is_of, find_feed, has_something, is_none_queued}
 use Rattle.reql_feeds.specs.Keeps.{feeds_of, Keeps}
 use Rattle.reql_feeds.specs.Record.{record_of, records, batch, given, closed}
 use Rattle.reql_feeds.specs.Rest.{rest_in, rest_of, all_rest}

@@ -5,8 +5,8 @@ use Rattle.std.specs.List.{All, remove}
 use Rattle.std.proofs.lemmas.List.{map-set, map-append, take-map, drop-map, length-map, get_or-map}
 use Rattle.std.proofs.lemmas.List.Elements.{All-append, All-take, All-drop, All-set, All-push}
 use Rattle.reql_datum.specs.Plain.{Plain}
-use Rattle.reql_law.specs.Table.{Held}
-use Rattle.reql_table_machine.specs.Feeds.{Feed, is_of, find_feed}
+use Rattle.reql_table_spec.specs.Table.{Held}
+use Rattle.reql_table_machine_spec.specs.Feeds.{Feed, is_of, find_feed}
 use Rattle.reql_feeds.specs.Keeps.{Sized, feeds_of, IsSized, Keeps, Rise}
 use Rattle.reql_feeds.specs.Record.{record_of, records, kept_in, left, after_take, closed}
 use Rattle.reql_feeds.specs.Rest.{rest_in, rest_of, all_rest}

@@ -4,13 +4,13 @@ use Rattle.std.specs.Prelude.{take}
 use Rattle.std.proofs.lemmas.List.{take-map, drop-map}
 use Rattle.reql_datum.specs.View.{plain}
 use Rattle.reql_datum.specs.declared.datum.Datum.{Datum}
-use Rattle.reql_law.specs.Table.{Held, feeding}
-use Rattle.reql_law.specs.declared.command.FeedSpec.{FeedSpec}
+use Rattle.reql_table_spec.specs.Table.{Held, feeding}
+use Rattle.reql_table_spec.specs.declared.command.FeedSpec.{FeedSpec}
 use Rattle.reql_queue.specs.Queued.{Queued, left_by}
 use Rattle.reql_queue.specs.Record.{all_shown, one_shown}
 use Rattle.reql_queue.specs.declared.queue.Taken.{Taken}
 use Rattle.reql_squash.specs.Told.{items_seen, item_seen}
-use Rattle.reql_table_machine.specs.declared.command.Said.TheVariants as said
+use Rattle.reql_table_machine_spec.specs.declared.command.Said.TheVariants as said
 use Rattle.reql_feeds.specs.Record.{record_of, batch, given}
 use Rattle.reql_feeds.specs.Rest.{rest_of}
 use Rattle.reql_feeds.specs.Seen.{seen, sized}

@@ -2,8 +2,8 @@
 use Rattle.std.proofs.Common.{◌≡◌, List, map, sym, subst}
 use Rattle.std.specs.List.{All}
 use Rattle.reql_datum.specs.Plain.{Plain}
-use Rattle.reql_law.specs.Table.{Held}
-use Rattle.reql_table_machine.specs.Feeds.{Feed}
+use Rattle.reql_table_spec.specs.Table.{Held}
+use Rattle.reql_table_machine_spec.specs.Feeds.{Feed}
 use Rattle.reql_term.specs.Views.{Document}
 use Rattle.reql_feeds.specs.Ahead.{Pending, all_ahead, IsDraft}
 use Rattle.reql_feeds.specs.Committing.{Forecasts}

@@ -3,8 +3,8 @@ use Rattle.std.proofs.Common.{◌≡◌, List, [], ◌∷◌, ◌++◌, map, ref
 use Rattle.std.specs.List.{All, AllZip}
 use Rattle.std.proofs.lemmas.List.Elements.{All-nil, All-cons, All-head, All-tail}
 use Rattle.reql_datum.specs.Plain.{Plain}
-use Rattle.reql_law.specs.Table.{Held}
-use Rattle.reql_table_machine.specs.Feeds.{Feed}
+use Rattle.reql_table_spec.specs.Table.{Held}
+use Rattle.reql_table_machine_spec.specs.Feeds.{Feed}
 use Rattle.reql_term.specs.Views.{Document}
 use Rattle.reql_feeds.specs.Record.{records, kept_in}
 use Rattle.reql_feeds.specs.Keeps.{Sized, feeds_of, IsSized, Keeps}

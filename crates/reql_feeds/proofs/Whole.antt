@@ -2,8 +2,8 @@
 use Rattle.std.proofs.Common.{◌≡◌, ℕ, List, [], ◌∷◌, map, Result, Ok, Err, is_ok, OnOk, OnErr, if◌then◌else◌, refl, sym, ap, subst, ◌∙◌}
 use Rattle.std.specs.List.{All, AllZip}
 use Rattle.reql_datum.specs.Plain.{Plain}
-use Rattle.reql_law.specs.Table.{Held}
-use Rattle.reql_table_machine.specs.Feeds.{Feed}
+use Rattle.reql_table_spec.specs.Table.{Held}
+use Rattle.reql_table_machine_spec.specs.Feeds.{Feed}
 use Rattle.reql_term.specs.Views.{Document}
 use Rattle.reql_feeds.specs.Ahead.{Pending, next_kept, ahead, all_ahead}
 use Rattle.reql_feeds.specs.Keeps.{feeds_of, IsSized, Keeps}

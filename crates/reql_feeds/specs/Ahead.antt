@@ -5,8 +5,8 @@ use Rattle.std.specs.List.{AllZip}
 use Rattle.std.specs.Option.{unwrap_or}
 use Rattle.reql_datum.specs.Code.{plain_code}
 use Rattle.reql_datum.specs.Plain.{Plain}
-use Rattle.reql_law.specs.Table.{Held}
-use Rattle.reql_table_machine.specs.Feeds.{Feed, push_all}
+use Rattle.reql_table_spec.specs.Table.{Held}
+use Rattle.reql_table_machine_spec.specs.Feeds.{Feed, push_all}
 use Rattle.reql_feeds.specs.Keeps.{Sized}
 
 -- what a feed has become, if it has, and what is to be queued for it

@@ -1,9 +1,9 @@
 -- All feeds beside their shadows.
 use Rattle.std.specs.Prelude.{◌≡◌, ◌<◌, ℕ, List, length, slice_index_or}
 use Rattle.reql_datum.specs.Plain.{Plain}
-use Rattle.reql_law.specs.Table.{Held}
+use Rattle.reql_table_spec.specs.Table.{Held}
 use Rattle.reql_queue.specs.Queued.{IsRoomFor}
-use Rattle.reql_table_machine.specs.Feeds.{Feed}
+use Rattle.reql_table_machine_spec.specs.Feeds.{Feed}
 use Rattle.reql_term.specs.Views.{Document}
 use Rattle.reql_feeds.specs.Ahead.{forecast}
 use Rattle.reql_feeds.specs.Seen.{seen}

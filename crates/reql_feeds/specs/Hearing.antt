@@ -2,8 +2,8 @@
 use Rattle.std.specs.Prelude.{◌≡◌, ℕ, List, ◌++◌, map}
 use Rattle.reql_datum.specs.Plain.{Plain}
 use Rattle.reql_datum.specs.View.{plain}
-use Rattle.reql_law.specs.Table.{Held}
-use Rattle.reql_table_machine.specs.Feeds.{Feed}
+use Rattle.reql_table_spec.specs.Table.{Held}
+use Rattle.reql_table_machine_spec.specs.Feeds.{Feed}
 use Rattle.reql_term.specs.Views.{Document}
 use Rattle.reql_feeds.specs.Ahead.{Pending, next_kept}
 use Rattle.reql_feeds.specs.Told.{stamped}

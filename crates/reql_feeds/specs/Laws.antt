@@ -4,11 +4,11 @@ use Rattle.reql_datum.specs.Order.{order}
 use Rattle.reql_datum.specs.Plain.{Plain}
 use Rattle.reql_memory.specs.Sorted.{AreRisingBy, find_by}
 use Rattle.reql_term.specs.Views.{Document}
-use Rattle.reql_law.specs.Table.{Held, DocumentTable, feeding, held}
-use Rattle.reql_law.specs.declared.command.FeedSpec.{FeedSpec}
-use Rattle.reql_table_machine.specs.Feeds.{Feed, after_change, after_changes, effect, says, find_feed, has_something}
-use Rattle.reql_table_machine.specs.declared.command.Cmd.TheVariants as cmds
-use Rattle.reql_write_law.specs.Treated.{Changed}
+use Rattle.reql_table_spec.specs.Table.{Held, DocumentTable, feeding, held}
+use Rattle.reql_table_spec.specs.declared.command.FeedSpec.{FeedSpec}
+use Rattle.reql_table_machine_spec.specs.Feeds.{Feed, after_change, after_changes, effect, says, find_feed, has_something}
+use Rattle.reql_table_machine_spec.specs.declared.command.Cmd.TheVariants as cmds
+use Rattle.reql_write_spec.specs.Treated.{Changed}
 use Rattle.reql_feeds.specs.Record.{fresh, given, after_take, closed}
 use Rattle.reql_feeds.specs.Told.{noticed}
 use Rattle.reql_feeds.specs.Turn.{done, undone, Leads}

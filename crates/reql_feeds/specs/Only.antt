@@ -3,8 +3,8 @@ use Rattle.std.specs.Prelude.{◌≡◌, List, [], Bool, false, not, Option, Som
 use Rattle.reql_datum.specs.Plain.{Plain}
 use Rattle.reql_rules.specs.Types.{same}
 use Rattle.reql_term.specs.Views.{Document}
-use Rattle.reql_law.specs.Table.{Held}
-use Rattle.reql_write_law.specs.Treated.{Changed}
+use Rattle.reql_table_spec.specs.Table.{Held}
+use Rattle.reql_write_spec.specs.Treated.{Changed}
 use Rattle.reql_feeds.specs.Turn.{undone, due, Leads}
 
 module _ {F : Type 0} (held : F → Held) (fits : F → List Document → Type 0) where

@@ -1,8 +1,8 @@
 -- The plan of a feed, if there is one.
 use Rattle.std.specs.Prelude.{◌≡◌, ℕ, List, [], ◌∷◌, ◌++◌, Option, Some, None}
-use Rattle.reql_law.specs.Table.{Held}
+use Rattle.reql_table_spec.specs.Table.{Held}
 use Rattle.reql_term.specs.Views.{Document}
-use Rattle.reql_write_law.specs.Treated.{Changed}
+use Rattle.reql_write_spec.specs.Treated.{Changed}
 use Rattle.reql_feeds.specs.Told.{IsAnswered}
 use Rattle.reql_feeds.specs.declared.entry.Entry.{Entry}
 use Rattle.reql_feeds.specs.declared.prepared.Plan.{Plan}

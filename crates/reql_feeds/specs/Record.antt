@@ -4,13 +4,13 @@ use Rattle.std.specs.Coded.{Coded, code_by, coded×, coded_list, coded_ℕ}
 use Rattle.std.specs.List.{All}
 use Rattle.reql_datum.specs.Plain.{Plain}
 use Rattle.reql_datum.specs.declared.datum.Datum.{Datum}
-use Rattle.reql_law.specs.Table.{Held, feeding}
+use Rattle.reql_table_spec.specs.Table.{Held, feeding}
 use Rattle.reql_queue.specs.declared.queue.Taken.{Taken}
 use Rattle.reql_squash.specs.Told.{items_seen}
-use Rattle.reql_table_machine.specs.Feeds.{Feed, is_of, given_by, left_by}
-use Rattle.reql_table_machine.specs.declared.command.Said.{Said}
-use Rattle.reql_table_machine.specs.declared.command.Said.TheVariants as said
-use Rattle.reql_write_law.specs.declared.command.Summary.{Summary}
+use Rattle.reql_table_machine_spec.specs.Feeds.{Feed, is_of, given_by, left_by}
+use Rattle.reql_table_machine_spec.specs.declared.command.Said.{Said}
+use Rattle.reql_table_machine_spec.specs.declared.command.Said.TheVariants as said
+use Rattle.reql_write_spec.specs.declared.command.Summary.{Summary}
 
 abbrev pub feed_code : {K I : Type 0} → Coded K → Coded I → Coded (Feed K I)
 feed_code {K} {I} k i = code_by (ℕ × (ℕ × (K × (ℕ × (List (ℕ × I) × (ℕ × ℕ)))))) (coded× coded_ℕ (coded× coded_ℕ (coded× k (coded× coded_ℕ (coded× (coded_list (coded× coded_ℕ i)) (coded× coded_ℕ coded_ℕ))))))

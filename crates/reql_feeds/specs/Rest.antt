@@ -1,9 +1,9 @@
 -- What a Take of a feed leaves, with the feed as it is kept.
 use Rattle.std.specs.Prelude.{ℕ, List, [], map, drop, cond}
 use Rattle.reql_datum.specs.Plain.{Plain}
-use Rattle.reql_law.specs.Table.{Held, feed_of}
-use Rattle.reql_feed_law.specs.Feeds.{squashes}
-use Rattle.reql_table_machine.specs.Feeds.{Feed, is_of}
+use Rattle.reql_table_spec.specs.Table.{Held, feed_of}
+use Rattle.reql_feed_spec.specs.Feeds.{squashes}
+use Rattle.reql_table_machine_spec.specs.Feeds.{Feed, is_of}
 use Rattle.reql_feeds.specs.Keeps.{Sized}
 
 module _ {F : Type 0} (held : F → Held) where

@@ -3,7 +3,7 @@ use Rattle.std.specs.Prelude.{List, map}
 use Rattle.reql_datum.specs.Plain.{Plain}
 use Rattle.reql_datum.specs.View.{plain}
 use Rattle.reql_queue.specs.Record.{all_shown}
-use Rattle.reql_table_machine.specs.Feeds.{Feed}
+use Rattle.reql_table_machine_spec.specs.Feeds.{Feed}
 use Rattle.reql_feeds.specs.Keeps.{Sized}
 use Rattle.reql_feeds.specs.declared.entry.Entry.{Entry}
 

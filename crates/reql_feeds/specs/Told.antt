@@ -4,9 +4,9 @@ use Rattle.reql_datum.specs.Plain.{Plain}
 use Rattle.reql_datum.specs.View.{plain}
 use Rattle.reql_queue.specs.Queued.{IsRoomFor}
 use Rattle.reql_term.specs.Views.{Document}
-use Rattle.reql_law.specs.Table.{Held, feeding}
-use Rattle.reql_table_machine.specs.Feeds.{Feed, notice}
-use Rattle.reql_write_law.specs.Treated.{Changed}
+use Rattle.reql_table_spec.specs.Table.{Held, feeding}
+use Rattle.reql_table_machine_spec.specs.Feeds.{Feed, notice}
+use Rattle.reql_write_spec.specs.Treated.{Changed}
 use Rattle.reql_feeds.specs.Turn.{due, undone}
 use Rattle.reql_feeds.specs.Record.{record_of}
 use Rattle.reql_feeds.specs.Keeps.{Sized}

@@ -5,11 +5,11 @@ use Rattle.reql_datum.specs.Plain.{Plain}
 use Rattle.reql_datum.specs.View.{plain}
 use Rattle.reql_memory.specs.Sorted.{AreRisingBy, find_by}
 use Rattle.reql_term.specs.Views.{Document}
-use Rattle.reql_feed_law.specs.Feeds.{queued}
-use Rattle.reql_feed_law.specs.Value.{changed}
-use Rattle.reql_law.specs.Table.{Held, feed_of, at_key}
-use Rattle.reql_write_law.specs.Treated.{Changed}
-use Rattle.reql_write_law.specs.declared.command.Change.{Change}
+use Rattle.reql_feed_spec.specs.Feeds.{queued}
+use Rattle.reql_feed_spec.specs.Value.{changed}
+use Rattle.reql_table_spec.specs.Table.{Held, feed_of, at_key}
+use Rattle.reql_write_spec.specs.Treated.{Changed}
+use Rattle.reql_write_spec.specs.declared.command.Change.{Change}
 
 -- a change as definitions speak of it
 abbrev pub told : Change → Changed

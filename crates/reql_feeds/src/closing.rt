@@ -2,7 +2,7 @@
 ghost use Rattle.std.specs.Prelude.{◌≡◌, ◌<◌, length};
 ghost use Rattle.std.specs.List.{remove};
 ghost use Rattle.std.specs.Option.{is_some};
-ghost use Rattle.reql_table_machine.specs.Feeds.{find_feed};
+ghost use Rattle.reql_table_machine_spec.specs.Feeds.{find_feed};
 ghost use Rattle.reql_feeds.specs.Keeps.{Keeps, feeds_of};
 ghost use Rattle.reql_feeds.specs.Record.{closed};
 ghost use Rattle.reql_feeds.specs.Seen.{all_sized};

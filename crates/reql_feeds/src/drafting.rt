@@ -20,7 +20,7 @@ use crate::shadow::{Shadow, blank, hear};
 use reql_datum::Datum;
 use reql_memory::Memory;
 use reql_queue::Queue;
-use reql_write_law::Change;
+use reql_write_spec::Change;
 use std::alloc::Global;
 
 /// A shadow for each feed.

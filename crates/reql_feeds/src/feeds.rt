@@ -1,7 +1,7 @@
 // The open feeds of a table.
 ghost use Rattle.std.specs.Prelude.{◌≡◌, ◌<◌, ◌^◌, ◌++◌, [], ◌∷◌, map, length, suc, is_ok, IfOk, OnOk, OnErr, if◌then◌else◌, option_map};
 ghost use Rattle.std.specs.Option.{is_some};
-ghost use Rattle.reql_table_machine.specs.Feeds.{find_feed, has_something};
+ghost use Rattle.reql_table_machine_spec.specs.Feeds.{find_feed, has_something};
 ghost use Rattle.reql_feeds.specs.Ahead.{all_ahead, IsDraft};
 ghost use Rattle.reql_feeds.specs.Record.{fresh, kept_in, records, closed, AreBelow, AllFit, after_take, given, batch};
 ghost use Rattle.reql_feeds.specs.Told.{noticed};
@@ -18,7 +18,7 @@ use crate::telling::tell_entries;
 use reql_datum::Datum;
 use reql_memory::Memory;
 use reql_queue::{Queue, Taken};
-use reql_write_law::Change;
+use reql_write_spec::Change;
 use std::alloc::Global;
 use std::marker::Model;
 
@@ -34,7 +34,7 @@ impl<F: Following> Model for Feeds<F> {
     ghost use Rattle.std.specs.Coded.{coded_list};
     ghost use Rattle.reql_datum.specs.Code.{plain_code};
     ghost use Rattle.reql_datum.specs.Plain.{Plain};
-    ghost use Rattle.reql_table_machine.specs.Feeds.{Feed};
+    ghost use Rattle.reql_table_machine_spec.specs.Feeds.{Feed};
     ghost use Rattle.reql_feeds.specs.Record.{feed_code};
     ghost use Rattle.reql_feeds.specs.Keeps.{Keeps, feeds_of};
     ghost use Rattle.reql_feeds.specs.Seen.{all_sized};

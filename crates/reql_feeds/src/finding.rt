@@ -1,6 +1,6 @@
 // Where a feed stands among the open ones.
 ghost use Rattle.std.specs.Prelude.{◌≡◌, ◌<◌, ◌&&◌, true, length, nat_eq, None, slice_index_or, MatchOption, option_map};
-ghost use Rattle.reql_table_machine.specs.Feeds.{find_feed, is_of, has_something};
+ghost use Rattle.reql_table_machine_spec.specs.Feeds.{find_feed, is_of, has_something};
 ghost use Rattle.reql_feeds.specs.Keeps.{feeds_of};
 ghost use Rattle.reql_feeds.specs.Seen.{seen, all_sized};
 

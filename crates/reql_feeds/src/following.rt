@@ -2,8 +2,8 @@
 ghost use Rattle.std.specs.Prelude.{◌≡◌, List, Option, Some, option_map, IfOk, IfSome, IfNone};
 ghost use Rattle.reql_datum.specs.Plain.{Plain};
 ghost use Rattle.reql_datum.specs.View.{plain};
-ghost use Rattle.reql_feed_law.specs.Feeds.{kind_of};
-ghost use Rattle.reql_law.specs.Table.{Held, feed_of};
+ghost use Rattle.reql_feed_spec.specs.Feeds.{kind_of};
+ghost use Rattle.reql_table_spec.specs.Table.{Held, feed_of};
 ghost use Rattle.reql_term.specs.Views.{Document};
 ghost use Rattle.reql_feeds.specs.Turn.{told, undone, due, Leads};
 ghost use Rattle.reql_feeds.specs.Items.{items_in};
@@ -11,10 +11,10 @@ ghost use Rattle.reql_feeds.specs.Only.{IsOfOne};
 
 use crate::prepared::Prepared;
 use reql_datum::Datum;
-use reql_feed_law::FeedKind;
-use reql_law::FeedSpec;
+use reql_feed_spec::FeedKind;
 use reql_memory::Memory;
-use reql_write_law::Change;
+use reql_table_spec::FeedSpec;
+use reql_write_spec::Change;
 use std::alloc::Global;
 
 /// A feed as a table keeps it: what it was asked for, and whatever it remembers of the documents.

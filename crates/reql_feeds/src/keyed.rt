@@ -7,10 +7,10 @@ ghost use Rattle.reql_feeds.specs.Only.{is_other};
 use crate::following::Following;
 use crate::prepared::Prepared;
 use reql_datum::{Datum, compare};
-use reql_feed_law::FeedKind;
-use reql_law::FeedSpec;
+use reql_feed_spec::FeedKind;
 use reql_memory::Memory;
-use reql_write_law::Change;
+use reql_table_spec::FeedSpec;
+use reql_write_spec::Change;
 use std::alloc::Global;
 use std::marker::Model;
 

@@ -16,7 +16,7 @@ use crate::keyed::passes_over;
 use crate::prepared::Prepared;
 use reql_datum::Datum;
 use reql_memory::Memory;
-use reql_write_law::Change;
+use reql_write_spec::Change;
 use std::alloc::Global;
 
 /// What a feed has become, if it has, and what is to be queued for it.

@@ -1,8 +1,8 @@
 // A Take of a feed: what waits, the oldest first, or all of it joined.
 ghost use Rattle.std.specs.Prelude.{◌≡◌, ◌&&◌, not, is_ok, IfOk, OnOk, OnErr, if◌then◌else◌, option_map};
-ghost use Rattle.reql_feed_law.specs.Feeds.{net};
+ghost use Rattle.reql_feed_spec.specs.Feeds.{net};
 ghost use Rattle.reql_queue.specs.Queued.{emptied};
-ghost use Rattle.reql_table_machine.specs.Feeds.{find_feed, has_something};
+ghost use Rattle.reql_table_machine_spec.specs.Feeds.{find_feed, has_something};
 ghost use Rattle.reql_feeds.specs.Keeps.{Keeps, feeds_of};
 ghost use Rattle.reql_feeds.specs.Record.{record_of, records, batch, given};
 ghost use Rattle.reql_feeds.specs.Seen.{seen, sized, all_sized};
@@ -13,11 +13,11 @@ use crate::entry::Entry;
 use crate::finding::place_of;
 use crate::following::Following;
 use reql_datum::Datum;
-use reql_feed_law::FeedKind;
-use reql_law::FeedSpec;
+use reql_feed_spec::FeedKind;
 use reql_memory::Memory;
 use reql_queue::{Queue, Taken};
 use reql_squash::squash;
+use reql_table_spec::FeedSpec;
 use std::alloc::Global;
 
 // Whether what waits is joined when it is taken.

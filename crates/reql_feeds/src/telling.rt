@@ -4,7 +4,7 @@ ghost use Rattle.std.specs.List.{All, AllZip};
 ghost use Rattle.reql_datum.specs.View.{plain};
 ghost use Rattle.reql_queue.specs.Queued.{IsRoomFor, with_room};
 ghost use Rattle.reql_queue.specs.Record.{all_pushed};
-ghost use Rattle.reql_table_machine.specs.Feeds.{push_all};
+ghost use Rattle.reql_table_machine_spec.specs.Feeds.{push_all};
 ghost use Rattle.reql_term.specs.Views.{Document};
 ghost use Rattle.reql_feeds.specs.Keeps.{IsSized, feeds_of};
 ghost use Rattle.reql_feeds.specs.Planning.{plan_of, IsNoted};
@@ -20,7 +20,7 @@ use crate::prepared::{Plan, Prepared};
 use reql_datum::Datum;
 use reql_memory::Memory;
 use reql_queue::Queue;
-use reql_write_law::Change;
+use reql_write_spec::Change;
 use std::alloc::Global;
 
 // What a change is to one feed, with room for what is queued.

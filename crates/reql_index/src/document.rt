@@ -8,7 +8,7 @@ ghost use Rattle.reql_datum.specs.Plain.{Plain};
 ghost use Rattle.reql_datum.specs.View.{plain};
 ghost use Rattle.reql_rules.specs.Sorting.{distinct as distinct_of};
 ghost use Rattle.reql_term.specs.Views.{index_of};
-ghost use Rattle.reql_value.specs.Index.{entries as entries_of, entries_of_value, entries_of_answer};
+ghost use Rattle.reql_value_spec.specs.Index.{entries as entries_of, entries_of_value, entries_of_answer};
 
 use reql_datum::{Datum, Fault, Items, Memory};
 use reql_eval::function_datum;

@@ -9,7 +9,7 @@ use Rattle.std.specs.Cmp.Lexicographic.{pointwise}
 use Rattle.std.specs.Option.{option_and_then}
 use Rattle.std.specs.Ordering.{is_lt, eq_by_cmp, on}
 use Rattle.std.specs.List.{insert, remove, list_any, position, position_or_len, prefix_len}
-use Rattle.reql_feed_law.specs.Fold.{coming}
+use Rattle.reql_feed_spec.specs.Fold.{coming}
 use Rattle.std.specs.Borrow.{Bor}
 use Rattle.reql_memory.proofs.Held.{map-insert}
 use Rattle.reql_datum.specs.Order.{order}

@@ -5,9 +5,9 @@ use Rattle.std.specs.List.{list_any}
 use Rattle.reql_datum.specs.Plain.{Plain}
 use Rattle.reql_rules.specs.Types.{same}
 use Rattle.reql_bag.specs.Bag.{times}
-use Rattle.reql_feed_law.specs.Fold.{bag_fold, list_fold, cut}
-use Rattle.reql_feed_law.specs.Follows.{IsThere}
-use Rattle.reql_feed_law.specs.Shown.{member_at, read}
+use Rattle.reql_feed_spec.specs.Fold.{bag_fold, list_fold, cut}
+use Rattle.reql_feed_spec.specs.Follows.{IsThere}
+use Rattle.reql_feed_spec.specs.Shown.{member_at, read}
 use Rattle.reql_load.specs.Folded.{is_state, is_there, is_below, folded_by, FoldsAsBag, BagsThatFollowFold, FoldsByPlaces}
 use Rattle.reql_load.specs.declared.steps.Way.TheVariants as ways
 

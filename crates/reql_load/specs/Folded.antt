@@ -5,10 +5,10 @@ use Rattle.std.specs.List.{list_any}
 use Rattle.reql_datum.specs.Plain.{Plain}
 use Rattle.reql_rules.specs.Types.{same}
 use Rattle.reql_bag.specs.Bag.{in_order}
-use Rattle.reql_feed_law.specs.Items.{present}
-use Rattle.reql_feed_law.specs.Fold.{bag_fold, list_fold, cut}
-use Rattle.reql_feed_law.specs.Follows.{BagFollows}
-use Rattle.reql_feed_law.specs.Shown.{member_at, place_of, read}
+use Rattle.reql_feed_spec.specs.Items.{present}
+use Rattle.reql_feed_spec.specs.Fold.{bag_fold, list_fold, cut}
+use Rattle.reql_feed_spec.specs.Follows.{BagFollows}
+use Rattle.reql_feed_spec.specs.Shown.{member_at, place_of, read}
 use Rattle.reql_load.specs.declared.steps.Way.{Way}
 use Rattle.reql_load.specs.declared.steps.Way.TheVariants as ways
 

@@ -1,8 +1,8 @@
 // What stands in an item.
 ghost use Rattle.std.specs.Prelude.{◌≡◌, is_none, option_map, option_and_then};
 ghost use Rattle.reql_datum.specs.View.{plain};
-ghost use Rattle.reql_feed_law.specs.Items.{present};
-ghost use Rattle.reql_feed_law.specs.Shown.{member_at, natural, place_of};
+ghost use Rattle.reql_feed_spec.specs.Items.{present};
+ghost use Rattle.reql_feed_spec.specs.Shown.{member_at, natural, place_of};
 ghost use Rattle.reql_load.specs.Folded.{has, is_skip, is_state, lacks_offsets};
 
 use reql_datum::Datum;

@@ -6,8 +6,8 @@ ghost use Rattle.std.specs.Ordering.{is_lt};
 ghost use Rattle.reql_datum.specs.Order.{order};
 ghost use Rattle.reql_datum.specs.View.{plain};
 ghost use Rattle.reql_rules.specs.Types.{same};
-ghost use Rattle.reql_feed_law.specs.Fold.{coming, leaving, cut, put_at};
-ghost use Rattle.reql_feed_law.specs.Shown.{member_at, read};
+ghost use Rattle.reql_feed_spec.specs.Fold.{coming, leaving, cut, put_at};
+ghost use Rattle.reql_feed_spec.specs.Shown.{member_at, read};
 ghost use Rattle.reql_load.specs.Folded.{bag_step, is_below, is_there, list_step, step};
 
 use crate::heard::{is_absent, is_state, place_at, value};

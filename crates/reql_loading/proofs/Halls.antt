@@ -5,9 +5,9 @@ use Rattle.reql_shared.specs.Sight.{Object, Closing}
 use Rattle.reql_hall.specs.Rooms.{Closed, Rooms}
 use Rattle.reql_catalog.specs.declared.catalog.Catalog.{Catalog}
 use Rattle.reql_catalog.specs.declared.command.CatCmd.{CatCmd}
-use Rattle.reql_law.specs.Limits.{usual_limits}
-use Rattle.reql_law.specs.Machine.{State, unused}
-use Rattle.reql_law.specs.declared.command.Order.{Order}
+use Rattle.reql_table_spec.specs.Limits.{usual_limits}
+use Rattle.reql_table_spec.specs.Machine.{State, unused}
+use Rattle.reql_table_spec.specs.declared.command.Order.{Order}
 use Rattle.reql_outside.specs.declared.memory.MemRecord.{MemRecord}
 use Rattle.reql_serve.specs.Many.{AtEnd}
 use Rattle.reql_run.proofs.Posts.{counted}

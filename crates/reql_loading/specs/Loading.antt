@@ -10,14 +10,14 @@ use Rattle.reql_answer.specs.Body.{body, internal}
 use Rattle.reql_hall.specs.Rooms.{Closed}
 use Rattle.reql_catalog.specs.declared.catalog.Catalog.{Catalog}
 use Rattle.reql_catalog.specs.declared.command.CatCmd.{CatCmd}
-use Rattle.reql_law.specs.Limits.{usual_limits}
-use Rattle.reql_law.specs.Machine.{State}
-use Rattle.reql_law.specs.declared.command.Entry.{Entry}
-use Rattle.reql_law.specs.declared.command.Order.{Order}
+use Rattle.reql_table_spec.specs.Limits.{usual_limits}
+use Rattle.reql_table_spec.specs.Machine.{State}
+use Rattle.reql_table_spec.specs.declared.command.Entry.{Entry}
+use Rattle.reql_table_spec.specs.declared.command.Order.{Order}
 use Rattle.reql_tail.specs.Kept.{Kept}
 use Rattle.reql_core.specs.declared.moment.Moment.{Moment}
-use Rattle.reql_story.specs.declared.end.End.TheVariants as ends
-use Rattle.reql_told.specs.Told.{keys_by}
+use Rattle.reql_session_spec.specs.declared.end.End.TheVariants as ends
+use Rattle.reql_query_session_spec.specs.Told.{keys_by}
 use Rattle.reql_serve.specs.Many.{AtEnd}
 use Rattle.reql_serve.specs.Working.{Outside}
 use Rattle.reql_serve.specs.declared.worker.Member.{Member}

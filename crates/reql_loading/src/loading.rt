@@ -3,21 +3,21 @@ ghost use Rattle.std.specs.Prelude.{◌<◌, length, map, string_bytes, IfOk, If
 ghost use Rattle.reql_words.specs.Words.{asks};
 ghost use Rattle.reql_core.specs.Core.{state_of};
 ghost use Rattle.reql_open_feed.specs.Open.{held_in};
-ghost use Rattle.reql_told.specs.Laws.{AllInOrder, AllFramesHandled, AllLoginRollsFirst, AllWornLate, AllFirstFailed, AllAreAnswered, AllWaitForNothing, AllValidClose, AllFeedsHold, AllSkipsAreSent, AllFeedsAreRead, AllFeedsAreTheirs, AllFeedsAreOpened, AllFeedsBegin, AllFeedsOpen, AllFeedsEnd, AllContinuesAreAnswered, AllNothingKeptBack, AllOfFeedsIsSent, AllFeedsAreTold, AllBatchesAreOfFeeds, AllBatchesAreFull, AllTakesAreOfFeeds, AllIsSaid, AllArmsAreApart, AllTakesArePlaced, AllSubscribesArePlaced};
+ghost use Rattle.reql_query_session_spec.specs.Laws.{AllInOrder, AllFramesHandled, AllLoginRollsFirst, AllWornLate, AllFirstFailed, AllAreAnswered, AllWaitForNothing, AllValidClose, AllFeedsHold, AllSkipsAreSent, AllFeedsAreRead, AllFeedsAreTheirs, AllFeedsAreOpened, AllFeedsBegin, AllFeedsOpen, AllFeedsEnd, AllContinuesAreAnswered, AllNothingKeptBack, AllOfFeedsIsSent, AllFeedsAreTold, AllBatchesAreOfFeeds, AllBatchesAreFull, AllTakesAreOfFeeds, AllIsSaid, AllArmsAreApart, AllTakesArePlaced, AllSubscribesArePlaced};
 ghost use Rattle.reql_serve.specs.Many.{at_end};
 ghost use Rattle.reql_loading.specs.Loading.{IsServed, Loads, Prints, Reports, Unloaded};
 
 use crate::posts::{SESSIONS, posts};
 use crate::printing::lines;
 use crate::whole::are_whole;
-use reql_law::Limits;
 use reql_memory::Memory;
 use reql_net::MemDoor;
 use reql_outside::{Put, Sink};
+use reql_query_session_spec::{answers_are_placed, feeds_are_read, feeds_are_told, sessions_hold};
 use reql_run::{Core, serve_posts};
 use reql_serve::Many;
+use reql_table_spec::Limits;
 use reql_tally::tally_history;
-use reql_told::{answers_are_placed, feeds_are_read, feeds_are_told, sessions_hold};
 use reql_words::{Command, command_of};
 use std::alloc::Global;
 use std::sync::Wait;

@@ -1,7 +1,7 @@
 // Whether the sessions of a load were served whole.
 ghost use Rattle.std.specs.Prelude.{◌≡◌, ◌<◌, ℕ, true, map, slice_index_or, IfOk};
 ghost use Rattle.reql_load.specs.Script.{script_of};
-ghost use Rattle.reql_story.specs.declared.end.End.TheVariants as ends;
+ghost use Rattle.reql_session_spec.specs.declared.end.End.TheVariants as ends;
 ghost use Rattle.reql_loading.specs.Loading.{has_part, has_any, refusals, IsWhole, ServedWhole};
 
 use crate::posts::SESSIONS;
@@ -11,7 +11,7 @@ use reql_memory::Memory;
 use reql_net::MemDoor;
 use reql_outside::MemRecord;
 use reql_serve::{Left, Member};
-use reql_story::End;
+use reql_session_spec::End;
 use std::alloc::Global;
 
 // Whether these bytes stand somewhere among others.

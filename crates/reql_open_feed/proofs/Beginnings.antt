@@ -5,12 +5,12 @@ use borrow.Author.Tests.{eqb-true}
 use Rattle.reql_datum.specs.Plain.{Plain}
 use Rattle.reql_rules.specs.Lists.{Bytes}
 use Rattle.reql_term.specs.Views.{Document, Index, documents_in}
-use Rattle.reql_value.specs.Index.{index_list}
-use Rattle.reql_feed_law.specs.Feeds.{nothing, kind_of, opened_from, opening_items}
-use Rattle.reql_feed_law.specs.Shown.{Shows as Printed}
-use Rattle.reql_feed_law.specs.declared.kind.FeedKind.{FeedKind}
-use Rattle.reql_feed_law.specs.declared.kind.FeedKind.TheVariants as kinds
-use Rattle.reql_law.specs.Table.{Held, feed_of, is_limit}
+use Rattle.reql_value_spec.specs.Index.{index_list}
+use Rattle.reql_feed_spec.specs.Feeds.{nothing, kind_of, opened_from, opening_items}
+use Rattle.reql_feed_spec.specs.Shown.{Shows as Printed}
+use Rattle.reql_feed_spec.specs.declared.kind.FeedKind.{FeedKind}
+use Rattle.reql_feed_spec.specs.declared.kind.FeedKind.TheVariants as kinds
+use Rattle.reql_table_spec.specs.Table.{Held, feed_of, is_limit}
 use Rattle.reql_table.specs.Keys.{pairs_of}
 use Rattle.reql_table.specs.Seen.{Numbered, Standing, documents_of, numbered_of, next_of, Each, IsGiven, IsAlike, GivesNumbers}
 use Rattle.reql_table.specs.Trees.{index_at, has_tree}

@@ -5,9 +5,9 @@ use Rattle.reql_datum.specs.Order.{order}
 use Rattle.reql_datum.specs.Plain.{Plain}
 use Rattle.reql_memory.specs.Sorted.{AreRisingBy, find_by}
 use Rattle.reql_term.specs.Views.{Document}
-use Rattle.reql_feed_law.specs.Feeds.{queued}
-use Rattle.reql_law.specs.Table.{Held, feed_of}
-use Rattle.reql_write_law.specs.Treated.{Changed}
+use Rattle.reql_feed_spec.specs.Feeds.{queued}
+use Rattle.reql_table_spec.specs.Table.{Held, feed_of}
+use Rattle.reql_write_spec.specs.Treated.{Changed}
 use Rattle.reql_feed_limit.specs.declared.element.LimitStep.{LimitStep}
 use Rattle.reql_feeds.specs.Turn.{undone, due, Leads}
 use Rattle.reql_open_feed.specs.Open.{Brings, Installs}

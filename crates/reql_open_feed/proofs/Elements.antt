@@ -3,10 +3,10 @@ use Rattle.std.proofs.Common.{◌≡◌, ℕ, nat_eq, List, [], ◌∷◌, Bool,
 use borrow.Author.Tests.{eqb-true}
 use Rattle.reql_rules.specs.Lists.{Bytes}
 use Rattle.reql_term.specs.Views.{Document, Index}
-use Rattle.reql_feed_law.specs.Items.{Difference, limit_items}
+use Rattle.reql_feed_spec.specs.Items.{Difference, limit_items}
 use Rattle.reql_table.specs.Seen.{Numbered, Standing, numbered_of}
 use Rattle.reql_table.specs.Trees.{index_at}
-use Rattle.reql_write_law.specs.Treated.{Changed}
+use Rattle.reql_write_spec.specs.Treated.{Changed}
 use Rattle.reql_feed_limit.specs.Feed.{Feed, Stands, Shows, KeepsTree, IsTreeOf, entries_of}
 use Rattle.reql_feed_limit.specs.Order.{first_in}
 use Rattle.reql_feeds.specs.Turn.{undone, Leads}

@@ -6,9 +6,9 @@ use Rattle.reql_rules.specs.Lists.{Bytes}
 use Rattle.reql_rules.specs.Types.{same_text}
 use Rattle.reql_term.specs.Views.{index_of}
 use Rattle.reql_term.specs.declared.view.IndexDef.{IndexDef}
-use Rattle.reql_law.specs.Indexes.{Indexes}
-use Rattle.reql_law.specs.Table.{Held, held, held_at, held_by, is_limit}
-use Rattle.reql_law.specs.declared.command.FeedSpec.{FeedSpec}
+use Rattle.reql_table_spec.specs.Indexes.{Indexes}
+use Rattle.reql_table_spec.specs.Table.{Held, held, held_at, held_by, is_limit}
+use Rattle.reql_table_spec.specs.declared.command.FeedSpec.{FeedSpec}
 
 held_if : (b : Bool) (h : Held) → is_some (if b then None else Some h) ≡ not b
 held_if true h = refl

@@ -2,8 +2,8 @@
 use denote.Param.Send.{IsSend, sendable}
 use denote.Param.SendFields.{as_row_send}
 use Rattle.std.proofs.Crossing.{crosses}
-use Rattle.reql_write_law.proofs.Sends.{def_send}
-use Rattle.reql_law.proofs.Sends.{spec_send}
+use Rattle.reql_write_spec.proofs.Sends.{def_send}
+use Rattle.reql_table_spec.proofs.Sends.{spec_send}
 use Rattle.reql_feed_limit.proofs.Sends.{limit_send}
 use Rattle.reql_feed_range.proofs.Sends.{range_send}
 use Rattle.reql_open_feed.specs.contracts.feed.OpenFeed as feed

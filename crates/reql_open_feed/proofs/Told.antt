@@ -3,11 +3,11 @@ use Rattle.std.proofs.Common.{◌≡◌, List, [], map, Bool, true, false, ◌||
 use Rattle.std.specs.Prelude.{is_some}
 use Rattle.reql_datum.specs.Plain.{Plain}
 use Rattle.reql_term.specs.Views.{Document}
-use Rattle.reql_feed_law.specs.Feeds.{Watch, first_of, queued_as, squashes, differences, queued}
-use Rattle.reql_feed_law.specs.Items.{Difference, limit_items}
-use Rattle.reql_feed_law.specs.Shown.{Shows as Printed, shown}
-use Rattle.reql_law.specs.Table.{Held, feed_of}
-use Rattle.reql_write_law.specs.Treated.{Changed}
+use Rattle.reql_feed_spec.specs.Feeds.{Watch, first_of, queued_as, squashes, differences, queued}
+use Rattle.reql_feed_spec.specs.Items.{Difference, limit_items}
+use Rattle.reql_feed_spec.specs.Shown.{Shows as Printed, shown}
+use Rattle.reql_table_spec.specs.Table.{Held, feed_of}
+use Rattle.reql_write_spec.specs.Treated.{Changed}
 use Rattle.reql_feed_limit.specs.Asked.{IsOf}
 use Rattle.reql_feed_limit.specs.Feed.{Feed, Shows, told}
 use Rattle.reql_feed_limit.specs.Items.{Item, Placed, folded}

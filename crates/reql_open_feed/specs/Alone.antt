@@ -1,8 +1,8 @@
 -- A change of another document is nothing to the feed of one.
 use Rattle.std.proofs.Common.{◌≡◌, Option, Some, None, ap}
 use Rattle.reql_datum.specs.Plain.{Plain}
-use Rattle.reql_feed_law.specs.Feeds.{Watch, one_key, all_given, first_of, nothing}
-use Rattle.reql_law.specs.Table.{feed_of}
+use Rattle.reql_feed_spec.specs.Feeds.{Watch, one_key, all_given, first_of, nothing}
+use Rattle.reql_table_spec.specs.Table.{feed_of}
 use Rattle.reql_feeds.specs.Only.{IsOfOne}
 use Rattle.reql_feeds.proofs.Apart.{apart_due}
 use Rattle.reql_feed_range.specs.Feed.{watched_key}

@@ -1,7 +1,7 @@
 -- A limit feed with its request.
 use Rattle.std.specs.Prelude.{◌≡◌, ◌<◌, ℕ, List, Option, Some, None, is_some}
 use Rattle.reql_term.specs.Views.{Document, Index}
-use Rattle.reql_law.specs.Table.{Held}
+use Rattle.reql_table_spec.specs.Table.{Held}
 use Rattle.reql_table.specs.Seen.{Standing, numbered_of, next_of}
 use Rattle.reql_feed_limit.specs.Asked.{IsOf}
 use Rattle.reql_feed_limit.specs.Feed.{Feed, Shows}

@@ -2,7 +2,7 @@
 use Rattle.std.specs.Prelude.{List, Option, Some, None}
 use Rattle.reql_datum.specs.Plain.{Plain}
 use Rattle.reql_term.specs.Views.{Document}
-use Rattle.reql_law.specs.Table.{Held, feed_of}
+use Rattle.reql_table_spec.specs.Table.{Held, feed_of}
 use Rattle.reql_table.specs.Seen.{Standing}
 use Rattle.reql_feed_range.specs.Feed.{watched_key}
 use Rattle.reql_feed_limit.specs.Seen.{seen_step}

@@ -1,12 +1,12 @@
 // Whether a request can be kept.
 ghost use Rattle.std.specs.Prelude.{◌≡◌, ◌&&◌, not, is_some, Some};
-ghost use Rattle.reql_law.specs.Table.{held, is_limit as is_limit_of};
+ghost use Rattle.reql_table_spec.specs.Table.{held, is_limit as is_limit_of};
 ghost use Rattle.reql_rules.specs.Types.{same_text};
 ghost use Rattle.reql_table.specs.Seen.{indexes_of};
 
 use reql_datum::Name;
-use reql_law::{FeedKind, FeedSpec};
 use reql_table::{IndexDef, Table, TableView};
+use reql_table_spec::{FeedKind, FeedSpec};
 
 /// Whether a kind is that of a limit feed.
 pub(crate) fn is_limit(kind: FeedKind) -> bool

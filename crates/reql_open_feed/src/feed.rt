@@ -11,9 +11,9 @@ use reql_datum::Datum;
 use reql_feed_limit::LimitStep;
 use reql_feed_range::RangeFeed;
 use reql_feeds::{Change, Following, Prepared};
-use reql_law::{FeedKind, FeedSpec};
 use reql_memory::Memory;
 use reql_table::Table;
+use reql_table_spec::{FeedKind, FeedSpec};
 use std::alloc::Global;
 
 /// A feed with what it was asked for: of one document or of a range, or of the first of an order.

@@ -1,12 +1,12 @@
 // A limit feed with its request.
 ghost use Rattle.std.specs.Prelude.{◌≡◌, true, is_some, Some, IfOk, IfSome, IfNone, List};
-ghost use Rattle.reql_feed_law.specs.Feeds.{kind_of, opening_items};
+ghost use Rattle.reql_feed_spec.specs.Feeds.{kind_of, opening_items};
 ghost use Rattle.reql_feed_limit.specs.Asked.{IsOf, IsOfOne};
 ghost use Rattle.reql_feed_limit.specs.Seen.{seen_step};
 ghost use Rattle.reql_feed_read.specs.Follows.{held_of};
 ghost use Rattle.reql_feeds.specs.Items.{items_in};
 ghost use Rattle.reql_feeds.specs.Turn.{told, undone, due, Leads};
-ghost use Rattle.reql_law.specs.Table.{held, feed_of, is_limit};
+ghost use Rattle.reql_table_spec.specs.Table.{held, feed_of, is_limit};
 ghost use Rattle.reql_open_feed.specs.First.{FirstBrings, FirstFits, FirstInstalls, FirstReads};
 ghost use Rattle.reql_table.specs.Seen.{Standing, documents_of, indexes_of};
 ghost use Rattle.reql_term.specs.Views.{Document};
@@ -16,10 +16,10 @@ use reql_datum::Items;
 use reql_feed_limit::{LimitFeed, LimitStep};
 use reql_feed_read::{index_copy, kept_index, request_copy};
 use reql_feeds::{Change, Prepared};
-use reql_law::{FeedKind, FeedSpec};
 use reql_memory::Memory;
 use reql_ptree::Steps;
 use reql_table::{IndexDef, Table};
+use reql_table_spec::{FeedKind, FeedSpec};
 use std::alloc::Global;
 use std::marker::Model;
 

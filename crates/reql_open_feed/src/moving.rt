@@ -1,8 +1,8 @@
 // What a change does to the elements of a limit feed.
 ghost use Rattle.std.specs.Prelude.{◌≡◌, ◌||◌, is_some, List, map, IfOk, IfSome, IfNone};
-ghost use Rattle.reql_feed_law.specs.Items.{limit_items};
+ghost use Rattle.reql_feed_spec.specs.Items.{limit_items};
 ghost use Rattle.reql_feed_limit.specs.Feed.{ArePrintable, Shows, told as told_of};
-ghost use Rattle.reql_feed_law.specs.Shown.{shown};
+ghost use Rattle.reql_feed_spec.specs.Shown.{shown};
 ghost use Rattle.reql_feed_limit.specs.Items.{folded};
 ghost use Rattle.reql_feed_limit.specs.Order.{first_in};
 ghost use Rattle.reql_feed_limit.specs.Seen.{seen_step};
@@ -16,10 +16,10 @@ ghost use Rattle.reql_table.specs.Seen.{documents_of};
 use crate::listed::listed;
 use reql_feed_limit::{LimitFeed, LimitStep};
 use reql_feeds::{Change, Prepared};
-use reql_law::FeedSpec;
 use reql_memory::Memory;
 use reql_ptree::Steps;
 use reql_table::Table;
+use reql_table_spec::FeedSpec;
 use std::alloc::Global;
 
 /// The step of a change, from the elements before it. `after` is the table after the change.

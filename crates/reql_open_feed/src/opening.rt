@@ -1,6 +1,6 @@
 // A feed is opened on a table.
 ghost use Rattle.std.specs.Prelude.{◌≡◌, true, false, is_some, refl, IfOk};
-ghost use Rattle.reql_law.specs.Table.{held, is_limit as is_limit_of};
+ghost use Rattle.reql_table_spec.specs.Table.{held, is_limit as is_limit_of};
 ghost use Rattle.reql_open_feed.specs.Open.{held_in, Fits, Reads};
 ghost use Rattle.reql_open_feed.specs.Stays.{reads_stay};
 ghost use Rattle.reql_opening.specs.Opens.{IsOpened};
@@ -10,10 +10,10 @@ use crate::asking::{is_limit, is_there};
 use crate::feed::OpenFeed;
 use crate::first::FirstFeed;
 use reql_feed_range::RangeFeed;
-use reql_law::FeedSpec;
 use reql_memory::Memory;
 use reql_opening::{Opened, Opening};
 use reql_table::Table;
+use reql_table_spec::FeedSpec;
 use std::alloc::Global;
 
 // A feed of one document or of a range.

@@ -4,8 +4,8 @@ use Rattle.std.specs.List.{AllByRecursion}
 use Rattle.reql_term.specs.Views.{Document, Index}
 use Rattle.reql_rules.specs.Lists.{Bytes}
 use Rattle.reql_table.specs.Seen.{Standing, Numbered, documents_of, indexes_of, numbered_of, next_of}
-use Rattle.reql_law.specs.Table.{Held, held, feeding}
-use Rattle.reql_law.specs.declared.command.FeedSpec.{FeedSpec}
+use Rattle.reql_table_spec.specs.Table.{Held, held, feeding}
+use Rattle.reql_table_spec.specs.declared.command.FeedSpec.{FeedSpec}
 use Rattle.reql_opening.specs.declared.opening.Opened.{Opened}
 
 module _ {F : Type 0} (held_in : F → Held) (fits : F → List Document → Type 0) (reads : F → Standing → Type 0) where

@@ -5,9 +5,9 @@ ghost use Rattle.reql_opening.specs.Opens.{Opens, Follows};
 
 use reql_datum::Items;
 use reql_feeds::Following;
-use reql_law::FeedSpec;
 use reql_memory::Memory;
 use reql_table::Table;
+use reql_table_spec::FeedSpec;
 use std::alloc::Global;
 
 /// A feed that was opened, and the items that it begins with.

@@ -6,7 +6,7 @@ use Rattle.reql_datum.specs.Order.{order}
 use Rattle.reql_datum.specs.Plain.{Plain, low, array, boolean, null, number, object, binary, time, text, high}
 use Rattle.reql_term.specs.Views.{Document, Entry, primary, documents_in, entries_between, entries_in}
 use Rattle.reql_term.specs.declared.range.Range.{Range}
-use Rattle.reql_value.specs.World.{View, documents_of}
+use Rattle.reql_value_spec.specs.World.{View, documents_of}
 use Rattle.reql_operand.specs.Seen.{documents_of_view}
 
 -- every value is between the lowest and the highest

@@ -6,8 +6,8 @@ use Rattle.reql_datum.specs.Outcome.{Gives}
 use Rattle.reql_datum.specs.View.{plain}
 use Rattle.reql_datum.specs.declared.datum.Datum.{Datum}
 use Rattle.reql_datum.specs.declared.fault.Fault.{Fault}
-use Rattle.reql_value.specs.Meant.{Calls}
-use Rattle.reql_value.specs.World.{World}
+use Rattle.reql_value_spec.specs.Meant.{Calls}
+use Rattle.reql_value_spec.specs.World.{World}
 use Rattle.reql_operand.specs.Seen.{meant}
 use Rattle.reql_operand.specs.declared.value.Value.{Value}
 

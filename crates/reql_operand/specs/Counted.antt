@@ -2,9 +2,9 @@
 use Rattle.std.specs.Prelude.{ℕ, slice_get, Option, Ok}
 use Rattle.reql_datum.specs.Answer.{Answer, ◌>>=◌}
 use Rattle.reql_datum.specs.Plain.{Plain}
-use Rattle.reql_value.specs.Meant.{Meant}
-use Rattle.reql_value.specs.Wanted.{to_sequence}
-use Rattle.reql_value.specs.World.{World}
+use Rattle.reql_value_spec.specs.Meant.{Meant}
+use Rattle.reql_value_spec.specs.Wanted.{to_sequence}
+use Rattle.reql_value_spec.specs.World.{World}
 
 -- the element at a place
 abbrev pub element : World → ℕ → Meant → Answer (Option Plain)

@@ -4,7 +4,7 @@ use Rattle.reql_datum.specs.Answer.{Answer, ◌>>=◌}
 use Rattle.reql_datum.specs.Plain.{Plain}
 use Rattle.reql_rules.specs.Fields.{attribute}
 use Rattle.reql_rules.specs.Lists.{Bytes}
-use Rattle.reql_value.specs.Matching.{matches}
+use Rattle.reql_value_spec.specs.Matching.{matches}
 
 -- it fits, it doesn't, or it isn't there
 abbrev pub found_matches : Bytes → Plain → Option Plain → Answer Bool

@@ -8,8 +8,8 @@ use Rattle.reql_datum.specs.declared.fault.Fault.TheVariants as f
 use Rattle.reql_term.specs.Views.{Entry, documents_in, entries_in}
 use Rattle.reql_term.specs.declared.range.Range.{Range}
 use Rattle.reql_rules.specs.Lists.{Bytes}
-use Rattle.reql_value.specs.Meant as m
-use Rattle.reql_value.specs.World.{World, View, view_at}
+use Rattle.reql_value_spec.specs.Meant as m
+use Rattle.reql_value_spec.specs.World.{World, View, view_at}
 use Rattle.reql_operand.specs.declared.value.Bounds.{Bounds}
 use Rattle.reql_operand.specs.declared.value.Slice.{Slice}
 use Rattle.reql_operand.specs.declared.value.Slice.TheVariants as s

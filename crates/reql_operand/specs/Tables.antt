@@ -2,7 +2,7 @@
 use Rattle.std.specs.Prelude.{ℕ, List, map}
 use Rattle.reql_term.specs.Views.{Document, Entry, Index}
 use Rattle.reql_rules.specs.Lists.{Bytes}
-use Rattle.reql_value.specs.World as w
+use Rattle.reql_value_spec.specs.World as w
 use Rattle.reql_operand.specs.declared.world.Viewed.{Viewed}
 use Rattle.reql_operand.specs.declared.world.Database.{Database}
 use Rattle.reql_operand.specs.declared.world.World.{World}

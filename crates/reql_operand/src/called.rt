@@ -2,9 +2,9 @@
 ghost use Rattle.reql_datum.specs.Outcome.{Gives};
 ghost use Rattle.reql_datum.specs.View.{plain};
 ghost use Rattle.std.specs.Prelude.{◌≡◌, map};
-ghost use Rattle.reql_value.specs.Called.{answer as answer_of, answer_datum as answer_datum_of, answer_one as answer_one_of, answer_two as answer_two_of, answer_items as answer_items_of, answer_key as answer_key_of, passes as passes_of, answer_test as answer_test_of, constant_key as constant_key_of, gives_pattern as gives_pattern_of, judged as judged_of};
-ghost use Rattle.reql_value.specs.Meant.{Calls, meant_of};
-ghost use Rattle.reql_value.specs.World.{World as Seen};
+ghost use Rattle.reql_value_spec.specs.Called.{answer as answer_of, answer_datum as answer_datum_of, answer_one as answer_one_of, answer_two as answer_two_of, answer_items as answer_items_of, answer_key as answer_key_of, passes as passes_of, answer_test as answer_test_of, constant_key as constant_key_of, gives_pattern as gives_pattern_of, judged as judged_of};
+ghost use Rattle.reql_value_spec.specs.Meant.{Calls, meant_of};
+ghost use Rattle.reql_value_spec.specs.World.{World as Seen};
 ghost use Rattle.reql_operand.specs.Called.{Answers};
 ghost use Rattle.reql_operand.specs.Seen.{meant, shown};
 ghost use Rattle.reql_operand.specs.Tables.{seen};

@@ -3,8 +3,8 @@ ghost use Rattle.std.specs.Prelude.{◌≡◌, List, ℕ, Ok, IfOk, length, drop
 ghost use Rattle.reql_datum.specs.Outcome.{Gives};
 ghost use Rattle.reql_datum.specs.View.{plain};
 ghost use Rattle.reql_term.specs.Views.{Document, Entry, Index, entries_in, entries_of};
-ghost use Rattle.reql_value.specs.Meant.{table as table_of};
-ghost use Rattle.reql_value.specs.Sequences.{count_elements as count_elements_of};
+ghost use Rattle.reql_value_spec.specs.Meant.{table as table_of};
+ghost use Rattle.reql_value_spec.specs.Sequences.{count_elements as count_elements_of};
 ghost use Rattle.reql_operand.specs.Counted.{element};
 ghost use Rattle.reql_operand.specs.Seen.{meant, left_of, documents_at, documents_of_view};
 ghost use Rattle.reql_operand.specs.Tables.{view, seen};

@@ -3,9 +3,9 @@ ghost use Rattle.std.specs.Prelude.{◌≡◌, Err, is_ok, false, option_map, op
 ghost use Rattle.reql_datum.specs.Outcome.{Gives};
 ghost use Rattle.reql_datum.specs.View.{plain};
 ghost use Rattle.reql_rules.specs.Types.{object_in};
-ghost use Rattle.reql_value.specs.Scalars.{time_in};
-ghost use Rattle.reql_value.specs.Wanted.{seen as seen_of, wrong as wrong_of, datum_in, to_object as to_object_of, as_data as as_data_of, as_object as as_object_of, as_one, value_in as value_in_of};
-ghost use Rattle.reql_value.specs.World.{World as Seen};
+ghost use Rattle.reql_value_spec.specs.Scalars.{time_in};
+ghost use Rattle.reql_value_spec.specs.Wanted.{seen as seen_of, wrong as wrong_of, datum_in, to_object as to_object_of, as_data as as_data_of, as_object as as_object_of, as_one, value_in as value_in_of};
+ghost use Rattle.reql_value_spec.specs.World.{World as Seen};
 ghost use Rattle.reql_operand.specs.Seen.{meant, shown, all_shown};
 
 use crate::value::{Arg, Value};

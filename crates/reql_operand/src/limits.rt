@@ -5,9 +5,9 @@ ghost use Rattle.reql_datum.specs.Plain.{depth};
 ghost use Rattle.reql_datum.specs.View.{plain};
 ghost use Rattle.reql_rules.specs.Lists.{each};
 ghost use Rattle.reql_rules.specs.Sizes.{max_depth, is_long as is_long_of, short as short_of, shallow as shallow_of, within as within_of};
-ghost use Rattle.reql_value.specs.Meant.{selection};
-ghost use Rattle.reql_value.specs.Sequenced.{sized as sized_of, sized_rows as sized_rows_of, sized_group};
-ghost use Rattle.reql_value.specs.World.{World as Seen};
+ghost use Rattle.reql_value_spec.specs.Meant.{selection};
+ghost use Rattle.reql_value_spec.specs.Sequenced.{sized as sized_of, sized_rows as sized_rows_of, sized_group};
+ghost use Rattle.reql_value_spec.specs.World.{World as Seen};
 ghost use Rattle.reql_operand.specs.Seen.{meant, rows, group};
 
 use crate::texts::{over_array, over_depth};

@@ -4,7 +4,7 @@ ghost use Rattle.reql_datum.specs.Outcome.{Gives};
 ghost use Rattle.reql_datum.specs.Plain.{pairs_of};
 ghost use Rattle.reql_datum.specs.View.{plain};
 ghost use Rattle.reql_rules.specs.Types.{object_in, same};
-ghost use Rattle.reql_value.specs.Matching.{fits as fits_of, inside, matches as matches_of, match_all as match_all_of};
+ghost use Rattle.reql_value_spec.specs.Matching.{fits as fits_of, inside, matches as matches_of, match_all as match_all_of};
 ghost use Rattle.reql_operand.specs.Matching.{found_matches as found_matches_of};
 
 use crate::field::no_attribute;

@@ -3,8 +3,8 @@ ghost use Rattle.std.specs.Prelude.{◌≡◌, Some, map, option_map};
 ghost use Rattle.reql_datum.specs.Members.{find};
 ghost use Rattle.reql_datum.specs.Outcome.{Gives};
 ghost use Rattle.reql_rules.specs.Types.{same_text as same_text_of};
-ghost use Rattle.reql_value.specs.Wanted.{text_given as text_given_of, text_option as text_option_of, index_text as index_text_of, boundness as boundness_of, is_open as is_open_of, left_is_open as left_is_open_of, right_is_open as right_is_open_of};
-ghost use Rattle.reql_value.specs.World.{World as Seen};
+ghost use Rattle.reql_value_spec.specs.Wanted.{text_given as text_given_of, text_option as text_option_of, index_text as index_text_of, boundness as boundness_of, is_open as is_open_of, left_is_open as left_is_open_of, right_is_open as right_is_open_of};
+ghost use Rattle.reql_value_spec.specs.World.{World as Seen};
 ghost use Rattle.reql_operand.specs.Seen.{shown, choice};
 
 use crate::texts::bad_option;

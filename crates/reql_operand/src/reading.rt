@@ -3,10 +3,10 @@ ghost use Rattle.std.specs.Prelude.{◌≡◌, Ok, Err, map, take, drop, is_ok, 
 ghost use Rattle.reql_datum.specs.Outcome.{Gives};
 ghost use Rattle.reql_datum.specs.View.{plain};
 ghost use Rattle.reql_rules.specs.Types.{wanted, items_in as items_in_of};
-ghost use Rattle.reql_value.specs.Meant.{one};
-ghost use Rattle.reql_value.specs.Wanted.{wrong as wrong_of, to_sequence as to_sequence_of, as_sequence as as_sequence_of, to_table as to_table_of, as_table as as_table_of};
+ghost use Rattle.reql_value_spec.specs.Meant.{one};
+ghost use Rattle.reql_value_spec.specs.Wanted.{wrong as wrong_of, to_sequence as to_sequence_of, as_sequence as as_sequence_of, to_table as to_table_of, as_table as as_table_of};
 ghost use Rattle.reql_operand.specs.Seen.{meant, shown, left_of, documents_at, documents_of_view};
-ghost use Rattle.reql_value.specs.World.{World as Seen};
+ghost use Rattle.reql_value_spec.specs.World.{World as Seen};
 ghost use Rattle.reql_operand.specs.Tables.{view, seen};
 
 use crate::counted::count_range;

@@ -3,9 +3,9 @@ ghost use Rattle.std.specs.Prelude.{◌≡◌};
 ghost use Rattle.reql_datum.specs.Outcome.{Gives};
 ghost use Rattle.reql_datum.specs.View.{plain};
 ghost use Rattle.reql_rules.specs.Types.{truth};
-ghost use Rattle.reql_value.specs.Meant.{Calls, Options, name_of, meant_of};
-ghost use Rattle.reql_value.specs.Scalars.{raise as raise_of, type_of as type_of_of, negation as negation_of};
-ghost use Rattle.reql_value.specs.World.{World as Seen};
+ghost use Rattle.reql_value_spec.specs.Meant.{Calls, Options, name_of, meant_of};
+ghost use Rattle.reql_value_spec.specs.Scalars.{raise as raise_of, type_of as type_of_of, negation as negation_of};
+ghost use Rattle.reql_value_spec.specs.World.{World as Seen};
 ghost use Rattle.reql_operand.specs.Seen.{shown, all_shown};
 
 use crate::texts::misplaced;

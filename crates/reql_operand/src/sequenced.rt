@@ -1,8 +1,8 @@
 // What kind of sequence a term gives, by what its first argument is.
 ghost use Rattle.std.specs.Prelude.{◌≡◌};
-ghost use Rattle.reql_value.specs.Meant.{meant_of};
-ghost use Rattle.reql_value.specs.Sequenced.{like as like_of, alike as alike_of, in_order as in_order_of, selected as selected_of};
-ghost use Rattle.reql_value.specs.World.{World as Seen};
+ghost use Rattle.reql_value_spec.specs.Meant.{meant_of};
+ghost use Rattle.reql_value_spec.specs.Sequenced.{like as like_of, alike as alike_of, in_order as in_order_of, selected as selected_of};
+ghost use Rattle.reql_value_spec.specs.World.{World as Seen};
 ghost use Rattle.reql_operand.specs.Seen.{meant, shown, rows as rows_of};
 
 use crate::value::{Arg, Rows, Value};

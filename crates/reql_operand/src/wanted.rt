@@ -6,9 +6,9 @@ ghost use Rattle.reql_datum.specs.Outcome.{Gives};
 ghost use Rattle.reql_datum.specs.Plain.{null};
 ghost use Rattle.reql_datum.specs.View.{plain};
 ghost use Rattle.reql_rules.specs.Types.{number_in, text_in, items_in};
-ghost use Rattle.reql_value.specs.Meant.{callable, name_of as name_of_value, is_nothing as is_nothing_of, meant_of};
-ghost use Rattle.reql_value.specs.Wanted.{seen as seen_of, wrong as wrong_of, to_datum as to_datum_of, as_datum as as_datum_of, as_number as as_number_of, as_text as as_text_of, as_array as as_array_of, value_in as value_in_of};
-ghost use Rattle.reql_value.specs.World.{World as Seen};
+ghost use Rattle.reql_value_spec.specs.Meant.{callable, name_of as name_of_value, is_nothing as is_nothing_of, meant_of};
+ghost use Rattle.reql_value_spec.specs.Wanted.{seen as seen_of, wrong as wrong_of, to_datum as to_datum_of, as_datum as as_datum_of, as_number as as_number_of, as_text as as_text_of, as_array as as_array_of, value_in as value_in_of};
+ghost use Rattle.reql_value_spec.specs.World.{World as Seen};
 ghost use Rattle.reql_operand.specs.Seen.{meant, shown};
 
 use crate::texts::type_text;

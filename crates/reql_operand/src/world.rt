@@ -1,7 +1,7 @@
 // The tables that terms read.
 ghost use Rattle.std.specs.Prelude.{◌≡◌, IfOk};
 ghost use Rattle.reql_datum.specs.Outcome.{Gives};
-ghost use Rattle.reql_value.specs.World.{view_at};
+ghost use Rattle.reql_value_spec.specs.World.{view_at};
 ghost use Rattle.reql_operand.specs.Tables.{view, seen};
 
 use crate::texts::misplaced;

@@ -2,24 +2,24 @@
 use Rattle.std.proofs.Common.{◌≡◌, ℕ, ◌+◌, List, [], ◌∷◌, ◌++◌, drop, Result, sym, subst}
 use Rattle.reql_term.specs.Views.{Document, Entry}
 use Rattle.reql_rules.specs.Lists.{Bytes}
-use Rattle.reql_law.specs.Indexes.{Indexes}
-use Rattle.reql_law.specs.Replies.{Answered, told_of}
-use Rattle.reql_law.specs.declared.command.Cmd.TheVariants as cmds
-use Rattle.reql_law.specs.declared.reply.Reply.{Reply}
-use Rattle.reql_law.specs.declared.reply.Saved.{Saved}
-use Rattle.reql_law.specs.declared.reply.Saved.TheVariants as saved
-use Rattle.reql_plan_law.specs.declared.parts.Opening.{Opening}
-use Rattle.reql_plan_law.specs.Course.{Open, open_heard, opened_if, opened_by, order_of, subscribed}
-use Rattle.reql_plan_law.specs.Feeding as feeds
-use Rattle.reql_plan_law.specs.Held.{Held}
-use Rattle.reql_plan_law.specs.Move.{run}
-use Rattle.reql_plan_law.specs.Request.{Request, ends, asks}
-use Rattle.reql_moves.specs.Heard.{heard}
-use Rattle.reql_moves.specs.declared.moves.Found.{Found}
-use Rattle.reql_moves.specs.declared.moves.Found.TheVariants as found
-use Rattle.reql_stages.specs.Rest.{feeds_rest, feed_answer}
-use Rattle.reql_stages.specs.Turn.{Turns}
-use Rattle.reql_stages.specs.declared.stage.Turn.{Turn}
+use Rattle.reql_table_spec.specs.Indexes.{Indexes}
+use Rattle.reql_table_spec.specs.Replies.{Answered, told_of}
+use Rattle.reql_table_spec.specs.declared.command.Cmd.TheVariants as cmds
+use Rattle.reql_table_spec.specs.declared.reply.Reply.{Reply}
+use Rattle.reql_table_spec.specs.declared.reply.Saved.{Saved}
+use Rattle.reql_table_spec.specs.declared.reply.Saved.TheVariants as saved
+use Rattle.reql_plan_spec.specs.declared.parts.Opening.{Opening}
+use Rattle.reql_plan_spec.specs.Course.{Open, open_heard, opened_if, opened_by, order_of, subscribed}
+use Rattle.reql_plan_spec.specs.Feeding as feeds
+use Rattle.reql_plan_spec.specs.Held.{Held}
+use Rattle.reql_plan_spec.specs.Move.{run}
+use Rattle.reql_plan_spec.specs.Request.{Request, ends, asks}
+use Rattle.reql_plan_steps.specs.Heard.{heard}
+use Rattle.reql_plan_steps.specs.declared.moves.Found.{Found}
+use Rattle.reql_plan_steps.specs.declared.moves.Found.TheVariants as found
+use Rattle.reql_plan_state.specs.Rest.{feeds_rest, feed_answer}
+use Rattle.reql_plan_state.specs.Turn.{Turns}
+use Rattle.reql_plan_state.specs.declared.stage.Turn.{Turn}
 
 module _ {V E : Type 0} (documents : V → List Document) (indexes : V → Indexes) (entries : V → Bytes → List Entry) where
   -- the next one, by a copy of what was asked for

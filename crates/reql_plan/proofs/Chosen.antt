@@ -8,16 +8,16 @@ use Rattle.reql_term.specs.Form.{Form, Forms, no_forms, form, weight, list_weigh
 use Rattle.reql_term.specs.Views.{Document, Entry}
 use Rattle.reql_rules.specs.Lists.{Bytes}
 use Rattle.reql_rules.specs.Types.{truth}
-use Rattle.reql_law.specs.Indexes.{Indexes}
-use Rattle.reql_plan_law.specs.Course.{carried, branched}
-use Rattle.reql_plan_law.specs.Held.{Held}
-use Rattle.reql_plan_law.specs.Move.{Outcome}
-use Rattle.reql_plan_law.specs.Request.{Request, Moves, from}
-use Rattle.reql_plan_law.specs.Settled.{datum_of}
+use Rattle.reql_table_spec.specs.Indexes.{Indexes}
+use Rattle.reql_plan_spec.specs.Course.{carried, branched}
+use Rattle.reql_plan_spec.specs.Held.{Held}
+use Rattle.reql_plan_spec.specs.Move.{Outcome}
+use Rattle.reql_plan_spec.specs.Request.{Request, Moves, from}
+use Rattle.reql_plan_spec.specs.Settled.{datum_of}
 use Rattle.reql_plan.specs.Chosen.{chosen}
-use Rattle.reql_stages.specs.Turn.{Stops, Turns}
-use Rattle.reql_stages.specs.declared.stage.Turn.{Turn}
-use Rattle.reql_stages.proofs.Turns.{stops_by}
+use Rattle.reql_plan_state.specs.Turn.{Stops, Turns}
+use Rattle.reql_plan_state.specs.declared.stage.Turn.{Turn}
+use Rattle.reql_plan_state.proofs.Turns.{stops_by}
 
 by_truth : (b : Bool) (m rest : Moves Outcome) (a c : Answer Form) (run : Form → Moves Outcome) (on : Outcome → Request)
     → m on ≡ from a (λ f. run f on) → rest on ≡ from c (λ f. run f on)

@@ -3,15 +3,15 @@ use Rattle.std.proofs.Common.{◌≡◌, ◌++◌, [], ◌∷◌, refl, ap, map,
 use Rattle.reql_datum.specs.Answer.{Reason}
 use Rattle.reql_term.specs.Views.{Document, Entry}
 use Rattle.reql_rules.specs.Lists.{Bytes}
-use Rattle.reql_law.specs.Indexes.{Indexes}
-use Rattle.reql_law.specs.declared.command.Cmd.TheVariants as cmds
-use Rattle.reql_plan_law.specs.Course.{Open, closing, order_of}
-use Rattle.reql_plan_law.specs.Held.{Held}
-use Rattle.reql_plan_law.specs.Move.{run}
-use Rattle.reql_plan_law.specs.Request.{Request, asks}
-use Rattle.reql_stages.specs.Rest.{closing_rest}
-use Rattle.reql_stages.specs.Turn.{Turns}
-use Rattle.reql_stages.specs.declared.stage.Turn.{Turn}
+use Rattle.reql_table_spec.specs.Indexes.{Indexes}
+use Rattle.reql_table_spec.specs.declared.command.Cmd.TheVariants as cmds
+use Rattle.reql_plan_spec.specs.Course.{Open, closing, order_of}
+use Rattle.reql_plan_spec.specs.Held.{Held}
+use Rattle.reql_plan_spec.specs.Move.{run}
+use Rattle.reql_plan_spec.specs.Request.{Request, asks}
+use Rattle.reql_plan_state.specs.Rest.{closing_rest}
+use Rattle.reql_plan_state.specs.Turn.{Turns}
+use Rattle.reql_plan_state.specs.declared.stage.Turn.{Turn}
 
 same : {A : Type 0} (e : Held) (why : Reason) (os : List Open) (on : A → Request) → closing {A = A} e why os on ≡ closing_rest e why os
 same e why [] on = refl

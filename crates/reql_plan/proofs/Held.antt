@@ -4,14 +4,14 @@ use Rattle.reql_term.specs.Form.{Form}
 use Rattle.reql_term.specs.Views.{Document, Entry}
 use Rattle.reql_rules.specs.Lists.{Bytes}
 use Rattle.reql_catalog.specs.Catalog.{Named}
-use Rattle.reql_law.specs.Indexes.{Indexes}
-use Rattle.reql_plan_law.specs.declared.parts.Plan.{Plan}
-use Rattle.reql_plan_law.specs.declared.parts.Setting.{Setting}
-use Rattle.reql_plan_law.specs.Course.{carried, reading}
-use Rattle.reql_plan_law.specs.Held.{Held, Read}
-use Rattle.reql_plan_law.specs.Request.{ends}
-use Rattle.reql_stages.specs.Turn.{Turns}
-use Rattle.reql_stages.specs.declared.stage.Turn.{Turn}
+use Rattle.reql_table_spec.specs.Indexes.{Indexes}
+use Rattle.reql_plan_spec.specs.declared.parts.Plan.{Plan}
+use Rattle.reql_plan_spec.specs.declared.parts.Setting.{Setting}
+use Rattle.reql_plan_spec.specs.Course.{carried, reading}
+use Rattle.reql_plan_spec.specs.Held.{Held, Read}
+use Rattle.reql_plan_spec.specs.Request.{ends}
+use Rattle.reql_plan_state.specs.Turn.{Turns}
+use Rattle.reql_plan_state.specs.declared.stage.Turn.{Turn}
 
 module _ {V E : Type 0} (documents : V → List Document) (indexes : V → Indexes) (entries : V → Bytes → List Entry) where
   pub carried_as : (r : Result (Turn V) E) (k h : Held) (f : Form) → k ≡ h → Turns documents indexes entries r (carried k f ends) → Turns documents indexes entries r (carried h f ends)

@@ -9,11 +9,11 @@ use Rattle.reql_datum.specs.declared.whole.NumFault.TheVariants.{OverRange}
 use Rattle.reql_term.specs.Views.{Document, Entry}
 use Rattle.reql_rules.specs.Faults.{number_fault}
 use Rattle.reql_rules.specs.Lists.{Bytes}
-use Rattle.reql_law.specs.Indexes.{Indexes}
-use Rattle.reql_plan_law.specs.Course.{moment_in_range}
-use Rattle.reql_plan_law.specs.Request.{Request, give, refuse}
-use Rattle.reql_stages.specs.Turn.{Turns}
-use Rattle.reql_stages.specs.declared.stage.Turn.{Turn}
+use Rattle.reql_table_spec.specs.Indexes.{Indexes}
+use Rattle.reql_plan_spec.specs.Course.{moment_in_range}
+use Rattle.reql_plan_spec.specs.Request.{Request, give, refuse}
+use Rattle.reql_plan_state.specs.Turn.{Turns}
+use Rattle.reql_plan_state.specs.declared.stage.Turn.{Turn}
 
 module _ {V E : Type 0} (documents : V → List Document) (indexes : V → Indexes) (entries : V → Bytes → List Entry) where
   by_test : (b : Bool) (r : Result (Turn V) E) (n m : ℤ) (why : Reason) (on : ℤ → Request) → Some m ≡ (if b then Some n else None) → Turns documents indexes entries r (on m) → Turns documents indexes entries r (cond b (give n) (refuse why) on)

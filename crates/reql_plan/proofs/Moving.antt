@@ -2,10 +2,10 @@
 use Rattle.std.proofs.Common.{◌≡◌, refl, List, Bool, true, false, Result, Ok, Err}
 use Rattle.reql_term.specs.Views.{Document, Entry}
 use Rattle.reql_rules.specs.Lists.{Bytes}
-use Rattle.reql_law.specs.Indexes.{Indexes}
-use Rattle.reql_plan_law.specs.Request.{Request}
+use Rattle.reql_table_spec.specs.Indexes.{Indexes}
+use Rattle.reql_plan_spec.specs.Request.{Request}
 use Rattle.reql_plan.specs.Moved.{First, Goes, first_left, left_in}
-use Rattle.reql_moves.specs.declared.moves.Move.{Move}
+use Rattle.reql_plan_steps.specs.declared.moves.Move.{Move}
 use Rattle.reql_plan.specs.declared.course.Waiting.{Waiting}
 
 module _ {V E : Type 0} (documents : V → List Document) (indexes : V → Indexes) (entries : V → Bytes → List Entry) where

@@ -5,18 +5,18 @@ use Rattle.reql_datum.specs.declared.fault.Fault.{Fault}
 use Rattle.reql_term.specs.Form.{Form}
 use Rattle.reql_term.specs.Views.{Document, Entry}
 use Rattle.reql_rules.specs.Lists.{Bytes}
-use Rattle.reql_value.specs.Shown as values
-use Rattle.reql_value.specs.Shown.{Shown}
-use Rattle.reql_law.specs.Indexes.{Indexes}
-use Rattle.reql_held.specs.Shown.{shown_term}
-use Rattle.reql_plan_law.specs.Course.{shown, shown_as}
-use Rattle.reql_plan_law.specs.Held.{Held}
-use Rattle.reql_plan_law.specs.Move.{Outcome}
-use Rattle.reql_plan_law.specs.Request.{Request}
-use Rattle.reql_plan_law.specs.Settled.{meant_of}
-use Rattle.reql_stages.specs.Turn.{Stops, Turns}
-use Rattle.reql_stages.specs.declared.stage.Turn.{Turn}
-use Rattle.reql_stages.proofs.Turns.{stops_after, goes_after}
+use Rattle.reql_value_spec.specs.Shown as values
+use Rattle.reql_value_spec.specs.Shown.{Shown}
+use Rattle.reql_table_spec.specs.Indexes.{Indexes}
+use Rattle.reql_plan_context.specs.Shown.{shown_term}
+use Rattle.reql_plan_spec.specs.Course.{shown, shown_as}
+use Rattle.reql_plan_spec.specs.Held.{Held}
+use Rattle.reql_plan_spec.specs.Move.{Outcome}
+use Rattle.reql_plan_spec.specs.Request.{Request}
+use Rattle.reql_plan_spec.specs.Settled.{meant_of}
+use Rattle.reql_plan_state.specs.Turn.{Stops, Turns}
+use Rattle.reql_plan_state.specs.declared.stage.Turn.{Turn}
+use Rattle.reql_plan_state.proofs.Turns.{stops_after, goes_after}
 
 pub shown_stops : (why : Fault) (e : Held) (f : Form) (on : Outcome → Request) → Fails why (shown_term e.world f) → Stops why (shown e f on)
 shown_stops why e f on h = stops_after why (meant_of e.world f) (λ m. values.shown e.world m) (λ s. shown_as e s on) h

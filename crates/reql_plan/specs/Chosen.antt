@@ -4,8 +4,8 @@ use Rattle.reql_datum.specs.Answer.{Answer, ◌>>=◌}
 use Rattle.reql_term.specs.Form.{Form, Forms, no_forms, form}
 use Rattle.reql_rules.specs.Faults.{misplaced}
 use Rattle.reql_rules.specs.Types.{truth}
-use Rattle.reql_value.specs.World.{World}
-use Rattle.reql_plan_law.specs.Settled.{datum_of}
+use Rattle.reql_value_spec.specs.World.{World}
+use Rattle.reql_plan_spec.specs.Settled.{datum_of}
 
 abbrev pub chosen : World → Forms → Answer Form
 chosen w no_forms = Err misplaced

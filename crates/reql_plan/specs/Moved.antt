@@ -3,14 +3,14 @@ use Rattle.std.specs.Prelude.{◌≡◌, List, Bool, true, false, cond, Option, 
 use Rattle.reql_term.specs.Views.{Document, Entry}
 use Rattle.reql_rules.specs.Faults.{misplaced}
 use Rattle.reql_rules.specs.Lists.{Bytes}
-use Rattle.reql_law.specs.Indexes.{Indexes}
-use Rattle.reql_plan_law.specs.Course as c
-use Rattle.reql_plan_law.specs.Move as m
-use Rattle.reql_plan_law.specs.Request.{Request, ends, asks, Next, answered, moves}
-use Rattle.reql_moves.specs.Heard.{move_of}
-use Rattle.reql_moves.specs.declared.moves.Move.{Move}
-use Rattle.reql_stages.specs.Rest.{rest_of}
-use Rattle.reql_stages.specs.Turn.{lost_request}
+use Rattle.reql_table_spec.specs.Indexes.{Indexes}
+use Rattle.reql_plan_spec.specs.Course as c
+use Rattle.reql_plan_spec.specs.Move as m
+use Rattle.reql_plan_spec.specs.Request.{Request, ends, asks, Next, answered, moves}
+use Rattle.reql_plan_steps.specs.Heard.{move_of}
+use Rattle.reql_plan_steps.specs.declared.moves.Move.{Move}
+use Rattle.reql_plan_state.specs.Rest.{rest_of}
+use Rattle.reql_plan_state.specs.Turn.{lost_request}
 use Rattle.reql_plan.specs.declared.course.Course.{Course}
 use Rattle.reql_plan.specs.declared.course.Waiting.{Waiting}
 use Rattle.reql_plan.specs.declared.course.Waiting.TheVariants as w

@@ -4,20 +4,20 @@ ghost use Rattle.reql_datum.specs.Outcome.{Gives};
 ghost use Rattle.reql_term.specs.Form.{forms_of, weight, list_weight};
 ghost use Rattle.reql_term.specs.View.{form_of};
 ghost use Rattle.reql_operand.specs.Tables.{seen};
-ghost use Rattle.reql_held.specs.Seen.{held};
-ghost use Rattle.reql_plan_law.specs.Course.{carried, is_command_task, is_command, any_command};
-ghost use Rattle.reql_plan_law.specs.Request.{ends};
+ghost use Rattle.reql_plan_context.specs.Seen.{held};
+ghost use Rattle.reql_plan_spec.specs.Course.{carried, is_command_task, is_command, any_command};
+ghost use Rattle.reql_plan_spec.specs.Request.{ends};
 ghost use Rattle.reql_plan.specs.Chosen.{chosen};
-ghost use Rattle.reql_stages.specs.Turn.{Turns};
+ghost use Rattle.reql_plan_state.specs.Turn.{Turns};
 
 use crate::catalogue::change;
 use crate::feeds::changes;
 use crate::indexing::change_table;
 use crate::shown::shown;
 use reql_datum::{Fault, Memory, Name};
-use reql_held::{Held, datum_of};
 use reql_operand::{World, is_true};
-use reql_stages::{Then, Turn, for_each, refused, write};
+use reql_plan_context::{Held, datum_of};
+use reql_plan_state::{Then, Turn, for_each, refused, write};
 use reql_term::{TableView, Task, Term, Terms};
 use std::alloc::Global;
 

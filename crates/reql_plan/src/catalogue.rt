@@ -1,30 +1,32 @@
 // Commands on names: a drop shuts the slots of its tables, rising.
 ghost use Rattle.std.specs.Prelude.{◌≡◌, IfOk, drop, length};
 ghost use Rattle.reql_term.specs.Form.{forms_of, named_of};
-ghost use Rattle.reql_held.specs.Seen.{held};
-ghost use Rattle.reql_law.specs.Replies.{told_of};
-ghost use Rattle.reql_plan_law.specs.Course.{change_catalogue, change_heard, changed_by, reply_heard};
+ghost use Rattle.reql_plan_context.specs.Seen.{held};
+ghost use Rattle.reql_table_spec.specs.Replies.{told_of};
+ghost use Rattle.reql_plan_spec.specs.Course.{change_catalogue, change_heard, changed_by, reply_heard};
 ghost use Rattle.reql_naming.specs.Texts.{bad_name, no_db as no_db_of, no_table as no_table_of};
-ghost use Rattle.reql_plan_law.specs.Commands.{names_in as names_told, made_by as made_as};
-ghost use Rattle.reql_plan_law.specs.Move.{change_names, ran, atom, Outcome};
-ghost use Rattle.reql_plan_law.specs.Request.{ends, asks, refuse};
-ghost use Rattle.reql_plan_law.specs.Texts.{db_there as db_there_of, table_there as table_there_of, too_many_tables, history_full};
-ghost use Rattle.reql_moves.specs.Heard.{heard, outcome_of};
-ghost use Rattle.reql_stages.specs.Rest.{shut_rest};
-ghost use Rattle.reql_stages.specs.Turn.{turn_of, Turns, lost_request};
+ghost use Rattle.reql_plan_spec.specs.Commands.{names_in as names_told, made_by as made_as};
+ghost use Rattle.reql_plan_spec.specs.Move.{change_names, ran, atom, Outcome};
+ghost use Rattle.reql_plan_spec.specs.Request.{ends, asks, refuse};
+ghost use Rattle.reql_plan_spec.specs.Texts.{db_there as db_there_of, table_there as table_there_of, too_many_tables, history_full};
+ghost use Rattle.reql_plan_steps.specs.Heard.{heard, outcome_of};
+ghost use Rattle.reql_plan_state.specs.Rest.{shut_rest};
+ghost use Rattle.reql_plan_state.specs.Turn.{turn_of, Turns, lost_request};
 
 use reql_catalog::{CatCmd, CatReply, CatSaid};
 use reql_datum::{Fault, Memory, Name, Seq};
-use reql_held::Held;
-use reql_law::{Cmd, Order, Reply};
-use reql_moves::{Answered, Ask, Found, Kept, db_there, kept_by, no_db, no_table, table_there};
-use reql_ready::cat_command;
-use reql_stages::{Stage, Turn, asks, lost, points_of, refused};
-use reql_telling::{dropped_by, made_by, names_in};
+use reql_plan_commands::cat_command;
+use reql_plan_context::Held;
+use reql_plan_results::{dropped_by, made_by, names_in};
+use reql_plan_state::{Stage, Turn, asks, lost, points_of, refused};
+use reql_plan_steps::{
+    Answered, Ask, Found, Kept, db_there, kept_by, no_db, no_table, table_there,
+};
+use reql_table_spec::{Cmd, Order, Reply};
 use reql_term::{Op, TableView, TermFields, Terms};
 use std::alloc::Global;
 
-#[tactic(auto, using(reql_stages::proofs::Turns::turns))]
+#[tactic(auto, using(reql_plan_state::proofs::Turns::turns))]
 pub(crate) fn change<V: TableView + Drop>(
     alloc: Global,
     e: Held<V>,
@@ -304,7 +306,7 @@ pub(crate) fn shut<V: TableView + Drop>(
     }
 }
 
-#[tactic(auto, using(reql_stages::proofs::Saying::kept_on))]
+#[tactic(auto, using(reql_plan_state::proofs::Saying::kept_on))]
 fn shut_by<V: TableView + Drop>(
     alloc: Global,
     e: Held<V>,

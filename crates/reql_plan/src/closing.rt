@@ -1,20 +1,20 @@
 // The feeds that were opened are closed in order, and then the refusal is the answer.
 ghost use Rattle.std.specs.Prelude.{◌≡◌, map, drop};
-ghost use Rattle.reql_telling.specs.Seen.{opened as seen};
-ghost use Rattle.reql_held.specs.Seen.{held};
-ghost use Rattle.reql_plan_law.specs.Request.{ends, refuse};
-ghost use Rattle.reql_plan_law.specs.Move.{Outcome};
-ghost use Rattle.reql_stages.specs.Rest.{closing_rest, reason_of};
-ghost use Rattle.reql_stages.specs.Turn.{Turns};
+ghost use Rattle.reql_plan_results.specs.Seen.{opened as seen};
+ghost use Rattle.reql_plan_context.specs.Seen.{held};
+ghost use Rattle.reql_plan_spec.specs.Request.{ends, refuse};
+ghost use Rattle.reql_plan_spec.specs.Move.{Outcome};
+ghost use Rattle.reql_plan_state.specs.Rest.{closing_rest, reason_of};
+ghost use Rattle.reql_plan_state.specs.Turn.{Turns};
 
 use reql_catalog::Names;
 use reql_datum::{Fault, Memory, Name, Seq};
-use reql_held::Held;
-use reql_law::{Cmd, Order};
-use reql_moves::{Answered, Ask};
 use reql_operand::no_index;
-use reql_stages::{Refusal, Stage, Turn, asks, dropped, points_of};
-use reql_telling::Open;
+use reql_plan_context::Held;
+use reql_plan_results::Open;
+use reql_plan_state::{Refusal, Stage, Turn, asks, dropped, points_of};
+use reql_plan_steps::{Answered, Ask};
+use reql_table_spec::{Cmd, Order};
 use reql_term::TableView;
 use std::alloc::Global;
 

@@ -1,12 +1,12 @@
 // A request's course: its moves, one after another.
 ghost use Rattle.std.specs.Prelude.{◌≡◌, option_map, None};
-ghost use Rattle.reql_plan_law.specs.Request.{request};
-ghost use Rattle.reql_plan_law.specs.Course.{course};
-ghost use Rattle.reql_law.specs.Engines.{HoldsEntries};
-ghost use Rattle.reql_moves.specs.Heard.{heard, outcome_of};
-ghost use Rattle.reql_stages.specs.Rest.{rest_of};
+ghost use Rattle.reql_plan_spec.specs.Request.{request};
+ghost use Rattle.reql_plan_spec.specs.Course.{course};
+ghost use Rattle.reql_table_spec.specs.Engines.{HoldsEntries};
+ghost use Rattle.reql_plan_steps.specs.Heard.{heard, outcome_of};
+ghost use Rattle.reql_plan_state.specs.Rest.{rest_of};
 ghost use Rattle.reql_plan.specs.declared.course.Waiting.TheVariants.{In, Over};
-ghost use Rattle.reql_stages.specs.Turn.{Turns, turn_of};
+ghost use Rattle.reql_plan_state.specs.Turn.{Turns, turn_of};
 ghost use Rattle.reql_plan.specs.Moved.{Goes, Moved, left_in, left_of, First, quieted};
 
 use crate::catalogue::{changed, shut};
@@ -16,9 +16,9 @@ use crate::indexing::replied;
 use crate::looking::looked;
 use crate::opening::{named, told};
 use reql_datum::{Fault, Memory, Name};
-use reql_moves::{Answered, Ask, Found, Move};
-use reql_plan_law::{Plan, Setting};
-use reql_stages::{Stage, Turn, lost, rolled, wrote};
+use reql_plan_spec::{Plan, Setting};
+use reql_plan_state::{Stage, Turn, lost, rolled, wrote};
+use reql_plan_steps::{Answered, Ask, Found, Move};
 use reql_term::TableView;
 use std::alloc::Global;
 use std::mem;

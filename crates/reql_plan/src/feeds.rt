@@ -1,32 +1,32 @@
 // Feeds: each arm is opened, and where one isn't, those before it are closed.
 ghost use Rattle.std.specs.Prelude.{◌≡◌, ◌∷◌, ◌++◌, [], map};
 ghost use Rattle.reql_term.specs.Form.{forms_of, named_of};
-ghost use Rattle.reql_law.specs.Replies.{told_of, said_of};
-ghost use Rattle.reql_law.specs.declared.command.Cmd.TheVariants.{Subscribe};
-ghost use Rattle.reql_telling.specs.Seen.{opened as seen};
-ghost use Rattle.reql_held.specs.Seen.{held};
-ghost use Rattle.reql_feeding.specs.Seen.{asked};
-ghost use Rattle.reql_plan_law.specs.Course.{changes, open_heard, opened_if, opened_by, order_of};
-ghost use Rattle.reql_plan_law.specs.Move.{run};
-ghost use Rattle.reql_plan_law.specs.Request.{ends, asks};
-ghost use Rattle.reql_moves.specs.Heard.{heard};
-ghost use Rattle.reql_stages.specs.Rest.{feeds_rest, feed_answer, opens_rest};
-ghost use Rattle.reql_stages.specs.Turn.{Turns, lost_request};
+ghost use Rattle.reql_table_spec.specs.Replies.{told_of, said_of};
+ghost use Rattle.reql_table_spec.specs.declared.command.Cmd.TheVariants.{Subscribe};
+ghost use Rattle.reql_plan_results.specs.Seen.{opened as seen};
+ghost use Rattle.reql_plan_context.specs.Seen.{held};
+ghost use Rattle.reql_plan_changes.specs.Seen.{asked};
+ghost use Rattle.reql_plan_spec.specs.Course.{changes, open_heard, opened_if, opened_by, order_of};
+ghost use Rattle.reql_plan_spec.specs.Move.{run};
+ghost use Rattle.reql_plan_spec.specs.Request.{ends, asks};
+ghost use Rattle.reql_plan_steps.specs.Heard.{heard};
+ghost use Rattle.reql_plan_state.specs.Rest.{feeds_rest, feed_answer, opens_rest};
+ghost use Rattle.reql_plan_state.specs.Turn.{Turns, lost_request};
 
 use crate::closing::closing;
 use crate::opened::{copied_opening, copied_spec, name_or_empty, opened_as};
 use reql_datum::{Fault, Memory, Name, Seq};
-use reql_feeding::{Feeding, arms_of, feeds_asked, notes_of};
-use reql_held::Held;
-use reql_law::{Cmd, Order, Reply, Said, Saved};
-use reql_moves::{Answered, Ask, Found};
-use reql_plan_law::Opening;
-use reql_stages::{Refusal, Stage, Turn, asks, lost, points_of, refused};
-use reql_telling::{Open, first_items};
+use reql_plan_changes::{Feeding, arms_of, feeds_asked, notes_of};
+use reql_plan_context::Held;
+use reql_plan_results::{Open, first_items};
+use reql_plan_spec::Opening;
+use reql_plan_state::{Refusal, Stage, Turn, asks, lost, points_of, refused};
+use reql_plan_steps::{Answered, Ask, Found};
+use reql_table_spec::{Cmd, Order, Reply, Said, Saved};
 use reql_term::{TableView, TermFields, Terms};
 use std::alloc::Global;
 
-#[tactic(auto, using(reql_stages::proofs::Turns::turns))]
+#[tactic(auto, using(reql_plan_state::proofs::Turns::turns))]
 pub(crate) fn changes<V: TableView + Drop>(
     alloc: Global,
     e: Held<V>,

@@ -1,28 +1,28 @@
 // Commands on a table's indexes, and SYNC.
 ghost use Rattle.std.specs.Prelude.{◌≡◌, IfOk};
 ghost use Rattle.reql_term.specs.Form.{forms_of, named_of};
-ghost use Rattle.reql_law.specs.Replies.{told_of, said_of};
-ghost use Rattle.reql_held.specs.Seen.{held};
-ghost use Rattle.reql_plan_law.specs.Commands.{cmd_of};
-ghost use Rattle.reql_plan_law.specs.Course.{change_table, reply_heard, table_said, order_of};
-ghost use Rattle.reql_plan_law.specs.Move.{run, ran};
-ghost use Rattle.reql_plan_law.specs.Request.{ends, asks};
-ghost use Rattle.reql_moves.specs.Heard.{heard};
-ghost use Rattle.reql_stages.specs.Turn.{Turns, lost_request};
+ghost use Rattle.reql_table_spec.specs.Replies.{told_of, said_of};
+ghost use Rattle.reql_plan_context.specs.Seen.{held};
+ghost use Rattle.reql_plan_spec.specs.Commands.{cmd_of};
+ghost use Rattle.reql_plan_spec.specs.Course.{change_table, reply_heard, table_said, order_of};
+ghost use Rattle.reql_plan_spec.specs.Move.{run, ran};
+ghost use Rattle.reql_plan_spec.specs.Request.{ends, asks};
+ghost use Rattle.reql_plan_steps.specs.Heard.{heard};
+ghost use Rattle.reql_plan_state.specs.Turn.{Turns, lost_request};
 
 use reql_datum::{Fault, Memory};
-use reql_held::Held;
-use reql_law::{Order, Reply, Said};
-use reql_moves::{Answered, Ask, Found, Kept, index_there, kept_by};
 use reql_operand::no_index;
-use reql_plan_law::{Commanded, TableCmd};
-use reql_ready::{cmd_of, table_command};
-use reql_stages::{Stage, Turn, asks, lost, points_of, refused};
-use reql_telling::counted;
+use reql_plan_commands::{cmd_of, table_command};
+use reql_plan_context::Held;
+use reql_plan_results::counted;
+use reql_plan_spec::{Commanded, TableCmd};
+use reql_plan_state::{Stage, Turn, asks, lost, points_of, refused};
+use reql_plan_steps::{Answered, Ask, Found, Kept, index_there, kept_by};
+use reql_table_spec::{Order, Reply, Said};
 use reql_term::{Op, TableView, TermFields, Terms};
 use std::alloc::Global;
 
-#[tactic(auto, using(reql_stages::proofs::Turns::turns))]
+#[tactic(auto, using(reql_plan_state::proofs::Turns::turns))]
 pub(crate) fn change_table<V: TableView + Drop>(
     alloc: Global,
     e: Held<V>,
@@ -117,7 +117,7 @@ fn lost_command<V: TableView + Drop>(alloc: Global, command: Commanded) -> Resul
     lost(alloc)
 }
 
-#[tactic(auto, using(reql_stages::proofs::Saying::kept_on))]
+#[tactic(auto, using(reql_plan_state::proofs::Saying::kept_on))]
 fn replied_by<V: TableView + Drop>(
     alloc: Global,
     e: Held<V>,

@@ -14,4 +14,6 @@ mod opening;
 mod shown;
 
 pub use course::{Course, Waiting};
-pub use reql_moves::{Answered, Arm, Ask, CompileFault, Found, Item, Move, Plan, Setting, plan};
+pub use reql_plan_steps::{
+    Answered, Arm, Ask, CompileFault, Found, Item, Move, Plan, Setting, plan,
+};

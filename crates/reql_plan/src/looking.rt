@@ -1,21 +1,21 @@
 // The snapshots of a request, by rising slot.
 ghost use Rattle.std.specs.Prelude.{◌≡◌, drop};
 ghost use Rattle.reql_term.specs.View.{form_of};
-ghost use Rattle.reql_law.specs.Engines.{HoldsEntries, seen_in};
-ghost use Rattle.reql_held.specs.Seen.{read as seen};
-ghost use Rattle.reql_plan_law.specs.Course.{carried, reading, seen_heard, held};
-ghost use Rattle.reql_plan_law.specs.Move.{looked};
-ghost use Rattle.reql_plan_law.specs.Request.{ends};
-ghost use Rattle.reql_moves.specs.Heard.{heard};
-ghost use Rattle.reql_stages.specs.Turn.{Turns};
+ghost use Rattle.reql_table_spec.specs.Engines.{HoldsEntries, seen_in};
+ghost use Rattle.reql_plan_context.specs.Seen.{read as seen};
+ghost use Rattle.reql_plan_spec.specs.Course.{carried, reading, seen_heard, held};
+ghost use Rattle.reql_plan_spec.specs.Move.{looked};
+ghost use Rattle.reql_plan_spec.specs.Request.{ends};
+ghost use Rattle.reql_plan_steps.specs.Heard.{heard};
+ghost use Rattle.reql_plan_state.specs.Turn.{Turns};
 
 use crate::carrying::carried;
 use crate::opening::lost_asked;
 use reql_datum::{Memory, Seq};
-use reql_held::{Read, hold, with_view};
-use reql_law::Look;
-use reql_moves::{Ask, Found};
-use reql_stages::{Asked, Stage, Turn, asks, dropped};
+use reql_plan_context::{Read, hold, with_view};
+use reql_plan_state::{Asked, Stage, Turn, asks, dropped};
+use reql_plan_steps::{Ask, Found};
+use reql_table_spec::Look;
 use reql_term::TableView;
 use std::alloc::Global;
 

@@ -1,22 +1,22 @@
 // A feed that was opened, and copies of what was asked for.
 ghost use Rattle.std.specs.Prelude.{◌≡◌, ◌∷◌, ◌++◌, [], IfOk, map, cond};
-ghost use Rattle.reql_telling.specs.Seen.{opened as seen};
-ghost use Rattle.reql_held.specs.Seen.{held};
-ghost use Rattle.reql_feeding.specs.Seen.{asked};
-ghost use Rattle.reql_plan_law.specs.Course.{is_among, name_or_empty};
-ghost use Rattle.reql_plan_law.specs.Request.{give, refuse};
+ghost use Rattle.reql_plan_results.specs.Seen.{opened as seen};
+ghost use Rattle.reql_plan_context.specs.Seen.{held};
+ghost use Rattle.reql_plan_changes.specs.Seen.{asked};
+ghost use Rattle.reql_plan_spec.specs.Course.{is_among, name_or_empty};
+ghost use Rattle.reql_plan_spec.specs.Request.{give, refuse};
 ghost use Rattle.reql_rules.specs.Faults.{misplaced};
-ghost use Rattle.reql_stages.specs.Rest.{feeds_rest};
-ghost use Rattle.reql_stages.specs.Turn.{Turns};
+ghost use Rattle.reql_plan_state.specs.Rest.{feeds_rest};
+ghost use Rattle.reql_plan_state.specs.Turn.{Turns};
 
 use crate::feeds::subscribe;
 use reql_datum::{Memory, Name, Seq};
-use reql_feeding::Feeding;
-use reql_held::Held;
-use reql_law::FeedSpec;
-use reql_plan_law::Opening;
-use reql_stages::{Turn, lost};
-use reql_telling::Open;
+use reql_plan_changes::Feeding;
+use reql_plan_context::Held;
+use reql_plan_results::Open;
+use reql_plan_spec::Opening;
+use reql_plan_state::{Turn, lost};
+use reql_table_spec::FeedSpec;
 use reql_term::TableView;
 use std::alloc::Global;
 

@@ -2,22 +2,22 @@
 ghost use Rattle.std.specs.Prelude.{◌≡◌};
 ghost use Rattle.reql_term.specs.View.{form_of};
 ghost use Rattle.reql_naming.specs.Named.{resolved};
-ghost use Rattle.reql_plan_law.specs.Course.{names_heard, resolving, determined, at_moment, read, moment_heard, moment_by, moment_in_range};
-ghost use Rattle.reql_plan_law.specs.Request.{ends};
+ghost use Rattle.reql_plan_spec.specs.Course.{names_heard, resolving, determined, at_moment, read, moment_heard, moment_by, moment_in_range};
+ghost use Rattle.reql_plan_spec.specs.Request.{ends};
 ghost use Rattle.reql_datum.specs.Outcome.{Gives};
-ghost use Rattle.reql_moves.specs.Heard.{heard};
-ghost use Rattle.reql_stages.specs.Rest.{moment_rest};
-ghost use Rattle.reql_stages.specs.Turn.{Turns, lost_request};
+ghost use Rattle.reql_plan_steps.specs.Heard.{heard};
+ghost use Rattle.reql_plan_state.specs.Rest.{moment_rest};
+ghost use Rattle.reql_plan_state.specs.Turn.{Turns, lost_request};
 
 use crate::looking::reading;
 use reql_catalog::Names;
 use reql_datum::{Fault, Memory, Name, Whole};
-use reql_held::nothing_read;
-use reql_moves::{Answered, Ask, Found};
 use reql_naming::resolved;
-use reql_plan_law::{Plan, Setting};
+use reql_plan_context::nothing_read;
+use reql_plan_spec::{Plan, Setting};
+use reql_plan_state::{Asked, Stage, Turn, asks, lost, refused};
+use reql_plan_steps::{Answered, Ask, Found};
 use reql_reads::{has_now, leaks, read_slots, with_now};
-use reql_stages::{Asked, Stage, Turn, asks, lost, refused};
 use reql_term::{TableView, Term};
 use std::alloc::Global;
 
@@ -49,7 +49,7 @@ pub(crate) fn named<V: TableView + Drop>(
     }
 }
 
-#[tactic(auto, using(reql_stages::proofs::Turns::turns))]
+#[tactic(auto, using(reql_plan_state::proofs::Turns::turns))]
 fn resolving<V: TableView + Drop>(
     alloc: Global,
     plan: Plan,
@@ -173,7 +173,7 @@ fn in_range<V: TableView + Drop>(
 }
 
 // The moment in the place of each NOW.
-#[tactic(auto, using(reql_stages::proofs::Turns::turns))]
+#[tactic(auto, using(reql_plan_state::proofs::Turns::turns))]
 fn placed<V: TableView + Drop>(
     alloc: Global,
     asked: Asked,

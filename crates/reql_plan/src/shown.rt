@@ -1,17 +1,17 @@
 // Values: a sequence longer than a batch needs a cursor.
 ghost use Rattle.std.specs.Prelude.{◌≡◌};
 ghost use Rattle.reql_term.specs.View.{form_of};
-ghost use Rattle.reql_held.specs.Seen.{held};
-ghost use Rattle.reql_held.specs.Shown.{shown_as as seen};
-ghost use Rattle.reql_plan_law.specs.Course.{shown, shown_as};
-ghost use Rattle.reql_plan_law.specs.Request.{ends};
-ghost use Rattle.reql_stages.specs.Rest.{counts_fit};
-ghost use Rattle.reql_stages.specs.Turn.{Turns};
+ghost use Rattle.reql_plan_context.specs.Seen.{held};
+ghost use Rattle.reql_plan_context.specs.Shown.{shown_as as seen};
+ghost use Rattle.reql_plan_spec.specs.Course.{shown, shown_as};
+ghost use Rattle.reql_plan_spec.specs.Request.{ends};
+ghost use Rattle.reql_plan_state.specs.Rest.{counts_fit};
+ghost use Rattle.reql_plan_state.specs.Turn.{Turns};
 
 use reql_datum::{Fault, Memory, Name};
-use reql_held::{Held, Shown, show};
-use reql_moves::Answered;
-use reql_stages::{Turn, refused};
+use reql_plan_context::{Held, Shown, show};
+use reql_plan_state::{Turn, refused};
+use reql_plan_steps::Answered;
 use reql_term::{TableView, Term};
 use std::alloc::Global;
 

@@ -1,6 +1,6 @@
 -- A body that is read, or not, is what it asks for.
 use Rattle.std.proofs.Common.{◌≡◌, List, ℕ, Bool, Result, Ok, Err, refl, ◌∙◌, sym, ap, IfOk}
-use Rattle.reql_plan_law.specs.declared.parts.Plan.{Plan}
+use Rattle.reql_plan_spec.specs.declared.parts.Plan.{Plan}
 use Rattle.reql_read.specs.Query as queries
 use Rattle.reql_read.specs.Query.{query_text, text_is_quiet}
 use Rattle.reql_read.specs.Outcome.{Understands}
@@ -9,9 +9,9 @@ use Rattle.reql_read.specs.declared.fault.ReadFault.{ReadFault}
 use Rattle.reql_read.specs.declared.fault.ReadFault.TheVariants as fault
 use Rattle.reql_read.specs.declared.query.Query.{Query as Body}
 use Rattle.reql_read.specs.declared.query.Unread.{Unread}
-use Rattle.reql_talk.specs.Meant.{asked_of}
-use Rattle.reql_talk.specs.declared.query.Query.{Query}
-use Rattle.reql_told.specs.Asking.{asked, asked_by, refused}
+use Rattle.reql_session_api.specs.Meant.{asked_of}
+use Rattle.reql_session_api.specs.declared.query.Query.{Query}
+use Rattle.reql_query_session_spec.specs.Asking.{asked, asked_by, refused}
 use Rattle.reql_planner.specs.Asking.{asked_so, Refuses}
 
 so : (quiet : Bool) (x : queries.Asked) → asked_by quiet (Ok x) ≡ asked_so x

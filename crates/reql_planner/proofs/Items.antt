@@ -1,10 +1,10 @@
 -- Items of a feed, by its arms.
 use Rattle.std.proofs.Common.{◌≡◌, List, [], ◌∷◌, ℕ, map, get_or, refl, ap, ◌∙◌}
-use Rattle.reql_plan_law.specs.Move as plans
-use Rattle.reql_story.specs.Requests as story
-use Rattle.reql_talk.specs.Meant.{shown_of as shown_said, no_arm}
-use Rattle.reql_talk.specs.declared.answered.Shown.{Shown}
-use Rattle.reql_told.specs.Told.{shown_of as shown_told, arm_of as arm_told}
+use Rattle.reql_plan_spec.specs.Move as plans
+use Rattle.reql_session_spec.specs.Requests as story
+use Rattle.reql_session_api.specs.Meant.{shown_of as shown_said, no_arm}
+use Rattle.reql_session_api.specs.declared.answered.Shown.{Shown}
+use Rattle.reql_query_session_spec.specs.Told.{shown_of as shown_told, arm_of as arm_told}
 use Rattle.reql_planner.specs.Items.{Bare, bare_of, bare_in}
 
 abbrev armed : List story.Arm → Bare → story.Shown

@@ -2,24 +2,24 @@
 use Rattle.std.proofs.Common.{◌≡◌, List, [], ◌∷◌, ◌++◌, Bool, true, false, cond, Option, None, sym, ap, subst, ◌∙◌, append_assoc}
 use Rattle.reql_term.specs.Views.{Document, Entry}
 use Rattle.reql_rules.specs.Lists.{Bytes}
-use Rattle.reql_law.specs.Indexes.{Indexes}
-use Rattle.reql_law.specs.declared.limits.Limits.{Limits}
-use Rattle.reql_plan_law.specs.declared.parts.Plan.{Plan}
-use Rattle.reql_plan_law.specs.declared.parts.Setting.{Setting}
-use Rattle.reql_plan_law.specs.Course.{course, sent, plan_next}
-use Rattle.reql_plan_law.specs.Move as m
-use Rattle.reql_plan_law.specs.Move.{Heard}
-use Rattle.reql_plan_law.specs.Request.{Request, ends, asks, request, Next, answered, moves, next}
-use Rattle.reql_moves.specs.Heard.{ask_of, outcome_of, move_of}
-use Rattle.reql_moves.specs.declared.moves.Ask.{Ask}
-use Rattle.reql_moves.specs.declared.moves.Answered.{Answered}
-use Rattle.reql_moves.specs.declared.moves.Move.{Move}
-use Rattle.reql_moves.specs.declared.moves.Move.TheVariants as move
-use Rattle.reql_stages.specs.Turn.{lost_request}
+use Rattle.reql_table_spec.specs.Indexes.{Indexes}
+use Rattle.reql_table_spec.specs.declared.limits.Limits.{Limits}
+use Rattle.reql_plan_spec.specs.declared.parts.Plan.{Plan}
+use Rattle.reql_plan_spec.specs.declared.parts.Setting.{Setting}
+use Rattle.reql_plan_spec.specs.Course.{course, sent, plan_next}
+use Rattle.reql_plan_spec.specs.Move as m
+use Rattle.reql_plan_spec.specs.Move.{Heard}
+use Rattle.reql_plan_spec.specs.Request.{Request, ends, asks, request, Next, answered, moves, next}
+use Rattle.reql_plan_steps.specs.Heard.{ask_of, outcome_of, move_of}
+use Rattle.reql_plan_steps.specs.declared.moves.Ask.{Ask}
+use Rattle.reql_plan_steps.specs.declared.moves.Answered.{Answered}
+use Rattle.reql_plan_steps.specs.declared.moves.Move.{Move}
+use Rattle.reql_plan_steps.specs.declared.moves.Move.TheVariants as move
+use Rattle.reql_plan_state.specs.Turn.{lost_request}
 use Rattle.reql_plan.specs.Moved.{left_in, left_of, first_left, Moved, quieted}
 use Rattle.reql_plan.specs.declared.course.Course.{Course}
 use Rattle.reql_plan.specs.declared.course.Waiting.{Waiting}
-use Rattle.reql_told.specs.Told.{setting_of}
+use Rattle.reql_query_session_spec.specs.Told.{setting_of}
 use Rattle.reql_planner.specs.Follows.{is_answer, GoesOn, Follows, MayFollow}
 
 -- one request at one moment of another

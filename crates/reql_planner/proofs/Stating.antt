@@ -2,22 +2,22 @@
 use Rattle.std.proofs.Common.{◌≡◌, ℕ, List, [], ◌∷◌, ◌++◌, map, Bool, true, false, None, refl, sym, ap, subst, ◌∙◌}
 use Rattle.reql_term.specs.Views.{Document, Entry}
 use Rattle.reql_rules.specs.Lists.{Bytes}
-use Rattle.reql_law.specs.Indexes.{Indexes}
-use Rattle.reql_law.specs.declared.limits.Limits.{Limits}
-use Rattle.reql_plan_law.specs.declared.parts.Plan.{Plan}
-use Rattle.reql_plan_law.specs.declared.parts.Setting.{Setting}
-use Rattle.reql_plan_law.specs.Course.{course, plan_next}
-use Rattle.reql_plan_law.specs.Move.{Heard}
-use Rattle.reql_plan_law.specs.Request.{Next, request}
-use Rattle.reql_moves.specs.Heard.{move_of as move_of_plan}
-use Rattle.reql_moves.specs.declared.moves.Move.{Move}
+use Rattle.reql_table_spec.specs.Indexes.{Indexes}
+use Rattle.reql_table_spec.specs.declared.limits.Limits.{Limits}
+use Rattle.reql_plan_spec.specs.declared.parts.Plan.{Plan}
+use Rattle.reql_plan_spec.specs.declared.parts.Setting.{Setting}
+use Rattle.reql_plan_spec.specs.Course.{course, plan_next}
+use Rattle.reql_plan_spec.specs.Move.{Heard}
+use Rattle.reql_plan_spec.specs.Request.{Next, request}
+use Rattle.reql_plan_steps.specs.Heard.{move_of as move_of_plan}
+use Rattle.reql_plan_steps.specs.declared.moves.Move.{Move}
 use Rattle.reql_plan.specs.Moved.{left_in, left_of, Moved}
 use Rattle.reql_plan.specs.declared.course.Course.{Course}
-use Rattle.reql_story.specs.Requests as story
-use Rattle.reql_talk.specs.Meant.{found_of, heard_with, next_of}
-use Rattle.reql_talk.specs.declared.moves.Found.{Found}
-use Rattle.reql_story.specs.Tasks.{Keys}
-use Rattle.reql_told.specs.Told.{heard_of, move_of, setting_of, talk}
+use Rattle.reql_session_spec.specs.Requests as story
+use Rattle.reql_session_api.specs.Meant.{found_of, heard_with, next_of}
+use Rattle.reql_session_api.specs.declared.moves.Found.{Found}
+use Rattle.reql_session_spec.specs.Tasks.{Keys}
+use Rattle.reql_query_session_spec.specs.Told.{heard_of, move_of, setting_of, talk}
 use Rattle.reql_planner.specs.Follows.{found_in, heard_in, is_none, is_answer, Follows, MayFollow}
 use Rattle.reql_planner.specs.State.{state_of}
 use Rattle.reql_planner.proofs.Onward.{begins, went}

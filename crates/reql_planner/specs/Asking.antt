@@ -1,14 +1,14 @@
 -- What a body asks for, where it was read and where it wasn't.
 use Rattle.std.specs.Prelude.{◌≡◌, Result, Ok, Err}
 use Rattle.reql_faults.specs.Faults.{plan_fault}
-use Rattle.reql_plan_law.specs.declared.parts.Plan.{Plan}
+use Rattle.reql_plan_spec.specs.declared.parts.Plan.{Plan}
 use Rattle.reql_read.specs.Query as queries
 use Rattle.reql_read.specs.declared.fault.ReadFault.TheVariants.{Memory}
 use Rattle.reql_read.specs.declared.query.Unread.{Unread}
-use Rattle.reql_story.specs.Requests.{Asked, Continue, Stop, NoreplyWait, ServerInfo}
-use Rattle.reql_talk.specs.Meant.{asked_of}
-use Rattle.reql_talk.specs.declared.query.Query.{Query}
-use Rattle.reql_told.specs.Asking.{plan_of, planned, refused}
+use Rattle.reql_session_spec.specs.Requests.{Asked, Continue, Stop, NoreplyWait, ServerInfo}
+use Rattle.reql_session_api.specs.Meant.{asked_of}
+use Rattle.reql_session_api.specs.declared.query.Query.{Query}
+use Rattle.reql_query_session_spec.specs.Asking.{plan_of, planned, refused}
 
 -- of a query
 abbrev pub asked_so : queries.Asked → Asked Plan

@@ -5,20 +5,20 @@ use Rattle.reql_datum.specs.Code.{plain_code, list_code, pairs_code}
 use Rattle.reql_term.specs.FormCode.{form_code}
 use Rattle.reql_term.specs.Views.{Document, Entry}
 use Rattle.reql_rules.specs.Lists.{Bytes}
-use Rattle.reql_law.specs.Indexes.{Indexes}
-use Rattle.reql_plan_law.specs.declared.parts.Plan.{Plan}
-use Rattle.reql_plan_law.specs.declared.parts.Setting.{Setting}
-use Rattle.reql_plan_law.specs.Course.{course}
-use Rattle.reql_plan_law.specs.Move.{Heard}
-use Rattle.reql_plan_law.specs.Request.{Request, request, Next, next}
-use Rattle.reql_moves.specs.declared.moves.Move.{Move}
-use Rattle.reql_moves.specs.declared.moves.Move.TheVariants as move
+use Rattle.reql_table_spec.specs.Indexes.{Indexes}
+use Rattle.reql_plan_spec.specs.declared.parts.Plan.{Plan}
+use Rattle.reql_plan_spec.specs.declared.parts.Setting.{Setting}
+use Rattle.reql_plan_spec.specs.Course.{course}
+use Rattle.reql_plan_spec.specs.Move.{Heard}
+use Rattle.reql_plan_spec.specs.Request.{Request, request, Next, next}
+use Rattle.reql_plan_steps.specs.declared.moves.Move.{Move}
+use Rattle.reql_plan_steps.specs.declared.moves.Move.TheVariants as move
 use Rattle.reql_plan.specs.Moved.{left_in}
 use Rattle.reql_plan.specs.declared.course.Course.{Course}
-use Rattle.reql_story.specs.Requests as story
-use Rattle.reql_talk.specs.Meant.{found_of}
-use Rattle.reql_talk.specs.declared.moves.Found.{Found}
-use Rattle.reql_told.specs.Told.{heard_of}
+use Rattle.reql_session_spec.specs.Requests as story
+use Rattle.reql_session_api.specs.Meant.{found_of}
+use Rattle.reql_session_api.specs.declared.moves.Found.{Found}
+use Rattle.reql_query_session_spec.specs.Told.{heard_of}
 
 -- whether a list has nothing
 abbrev pub is_none : {A : Type 0} → List A → Bool

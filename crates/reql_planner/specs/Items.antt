@@ -2,10 +2,10 @@
 use Rattle.std.specs.Prelude.{ℕ, cond}
 use Rattle.reql_datum.specs.Plain.{Plain}
 use Rattle.reql_datum.specs.View.{plain}
-use Rattle.reql_plan_law.specs.Move as plans
-use Rattle.reql_story.specs.Requests.{Sort, State, Opening}
-use Rattle.reql_talk.specs.Meant.{sort_of}
-use Rattle.reql_talk.specs.declared.answered.Shown.{Shown}
+use Rattle.reql_plan_spec.specs.Move as plans
+use Rattle.reql_session_spec.specs.Requests.{Sort, State, Opening}
+use Rattle.reql_session_api.specs.Meant.{sort_of}
+use Rattle.reql_session_api.specs.declared.answered.Shown.{Shown}
 
 pub record Bare : Type 0 where
   pub at : ℕ

@@ -1,18 +1,18 @@
 // What a request comes to.
 ghost use Rattle.std.specs.Prelude.{◌≡◌, IfOk, map};
-ghost use Rattle.reql_telling.specs.Seen.{arm, item};
-ghost use Rattle.reql_plan_law.specs.Move.{feed};
-ghost use Rattle.reql_moves.specs.Heard.{outcome_of, stop_of};
-ghost use Rattle.reql_talk.specs.Meant.{answered_of as answer_said};
-ghost use Rattle.reql_told.specs.Told.{answered_of as answer_told, stop_of as stop_told};
+ghost use Rattle.reql_plan_results.specs.Seen.{arm, item};
+ghost use Rattle.reql_plan_spec.specs.Move.{feed};
+ghost use Rattle.reql_plan_steps.specs.Heard.{outcome_of, stop_of};
+ghost use Rattle.reql_session_api.specs.Meant.{answered_of as answer_said};
+ghost use Rattle.reql_query_session_spec.specs.Told.{answered_of as answer_told, stop_of as stop_told};
 
 use crate::grouping::grouped;
 use crate::listing::{arms_of, items_of};
 use reql_answer::ErrorType;
 use reql_datum::{Fault, Memory, Name, Seq};
-use reql_moves::Answered as Outcome;
-use reql_talk::Answered;
-use reql_telling::{Arm, Item};
+use reql_plan_results::{Arm, Item};
+use reql_plan_steps::Answered as Outcome;
+use reql_session_api::Answered;
 use std::alloc::Global;
 
 /// What a request comes to, in the words of its session.

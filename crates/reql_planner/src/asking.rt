@@ -4,18 +4,18 @@ ghost use Rattle.reql_term.specs.View.{form_of};
 ghost use Rattle.reql_faults.specs.Faults.{plan_fault};
 ghost use Rattle.reql_faults.specs.Finds.{Is};
 ghost use Rattle.reql_faults.specs.declared.fault.CompileFault.{CompileFault as Faulty};
-ghost use Rattle.reql_plan_law.specs.declared.parts.Plan.{Plan as Planned};
+ghost use Rattle.reql_plan_spec.specs.declared.parts.Plan.{Plan as Planned};
 ghost use Rattle.reql_read.specs.View.{asked as read_as};
-ghost use Rattle.reql_talk.specs.Meant.{asked_of};
-ghost use Rattle.reql_told.specs.Asking.{asked, planned, plan_of};
+ghost use Rattle.reql_session_api.specs.Meant.{asked_of};
+ghost use Rattle.reql_query_session_spec.specs.Asking.{asked, planned, plan_of};
 ghost use Rattle.reql_planner.specs.Asking.{asked_so, Refuses};
 
 use reql_datum::Memory;
 use reql_faults::CompileFault;
-use reql_moves::plan;
-use reql_plan_law::Plan;
+use reql_plan_spec::Plan;
+use reql_plan_steps::plan;
 use reql_read::{Globals, Query as Body, ReadFault, Unread, read_query};
-use reql_talk::Query;
+use reql_session_api::Query;
 use reql_term::Term;
 use std::alloc::Global;
 

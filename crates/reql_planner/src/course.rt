@@ -5,10 +5,10 @@ ghost use Rattle.reql_planner.specs.Follows.{heard_in, is_none, MayFollow, may_f
 use crate::moving::{heard, is_answer};
 use http_server::Log;
 use reql_datum::Memory;
-use reql_moves::Move;
 use reql_plan::Course;
-use reql_plan_law::{Plan, Setting};
-use reql_talk::Found;
+use reql_plan_spec::{Plan, Setting};
+use reql_plan_steps::Move;
+use reql_session_api::Found;
 use reql_term::TableView;
 use std::alloc::Global;
 use std::snapshot::Snapshot;
@@ -34,9 +34,9 @@ pub struct QueryCourse<V: TableView> {
 
 impl<V: TableView + Drop> QueryCourse<V> {
     ghost use Rattle.std.specs.Prelude.{[], ◌∷◌, ◌++◌, IfOk, true};
-    ghost use Rattle.reql_law.specs.Engines.{HoldsEntries};
-    ghost use Rattle.reql_moves.specs.Heard.{move_of};
-    ghost use Rattle.reql_plan_law.specs.Course.{plan_next};
+    ghost use Rattle.reql_table_spec.specs.Engines.{HoldsEntries};
+    ghost use Rattle.reql_plan_steps.specs.Heard.{move_of};
+    ghost use Rattle.reql_plan_spec.specs.Course.{plan_next};
 
     /// The course of a plan, which has found nothing yet.
     pub(crate) fn new(alloc: Global, plan: Plan, setting: Setting) -> QueryCourse<V>

@@ -3,7 +3,7 @@ ghost use Rattle.std.specs.Prelude.{◌≡◌, IfOk, OnOk, map};
 ghost use Rattle.reql_datum.specs.Members.{put};
 ghost use Rattle.reql_datum.specs.View.{plain};
 ghost use Rattle.reql_operand.specs.Seen.{group};
-ghost use Rattle.reql_value.specs.Shown.{grouped_data, group_pair};
+ghost use Rattle.reql_value_spec.specs.Shown.{grouped_data, group_pair};
 
 use reql_datum::{Datum, Fields, Items, Memory, Name};
 use reql_operand::Group;

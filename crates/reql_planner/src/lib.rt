@@ -1,5 +1,5 @@
 //! Sessions that plan ReQL: their bodies are read to requests, and each request is followed move by move
-//! to what it comes to, as `reql_told` says.
+//! to what it comes to, as `reql_query_session_spec` says.
 #![tactic(auto)]
 
 mod answering;

@@ -1,13 +1,13 @@
 // The arms of a feed, and its first items.
 ghost use Rattle.std.specs.Prelude.{◌≡◌, IfOk, map};
-ghost use Rattle.reql_telling.specs.Seen.{arm, item};
-ghost use Rattle.reql_talk.specs.Meant.{arm_of as arm_said, arms_of as arms_said};
-ghost use Rattle.reql_told.specs.Told.{arm_of as arm_told};
+ghost use Rattle.reql_plan_results.specs.Seen.{arm, item};
+ghost use Rattle.reql_session_api.specs.Meant.{arm_of as arm_said, arms_of as arms_said};
+ghost use Rattle.reql_query_session_spec.specs.Told.{arm_of as arm_told};
 ghost use Rattle.reql_planner.specs.Items.{bare_of, bare_in};
 
 use reql_datum::Memory;
-use reql_talk::{Arm, Shown, Sort};
-use reql_telling::{Arm as OpenArm, Item};
+use reql_plan_results::{Arm as OpenArm, Item};
+use reql_session_api::{Arm, Shown, Sort};
 use std::alloc::Global;
 
 /// The arms of a feed that was opened.

@@ -1,14 +1,14 @@
 // The moves of a request, and what they found, between a session and its plans.
 ghost use Rattle.std.specs.Prelude.{◌≡◌, IfOk};
-ghost use Rattle.reql_moves.specs.Heard.{ask_of, move_of as next_of, heard};
-ghost use Rattle.reql_talk.specs.Meant.{move_of as move_said, found_of};
-ghost use Rattle.reql_told.specs.Told.{asked_of as ask_told, move_of as move_told, heard_of};
+ghost use Rattle.reql_plan_steps.specs.Heard.{ask_of, move_of as next_of, heard};
+ghost use Rattle.reql_session_api.specs.Meant.{move_of as move_said, found_of};
+ghost use Rattle.reql_query_session_spec.specs.Told.{asked_of as ask_told, move_of as move_told, heard_of};
 ghost use Rattle.reql_planner.specs.Follows.{is_answer as is_answer_of};
 
 use crate::answering::answered;
 use reql_datum::Memory;
-use reql_moves::{Ask, Found as Heard, Move as Next};
-use reql_talk::{Found, Move};
+use reql_plan_steps::{Ask, Found as Heard, Move as Next};
+use reql_session_api::{Found, Move};
 use reql_term::TableView;
 use std::alloc::Global;
 

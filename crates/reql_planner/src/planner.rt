@@ -1,16 +1,16 @@
 // What a session asks of planning.
 ghost use Rattle.std.specs.Prelude.{◌≡◌, IfOk};
-ghost use Rattle.reql_told.specs.Told.{setting_of};
+ghost use Rattle.reql_query_session_spec.specs.Told.{setting_of};
 
 use crate::asking::asked;
 use crate::course::QueryCourse;
 use crate::moving::moved;
 use reql_datum::Memory;
-use reql_law::{Limits, TableEngine};
-use reql_plan_law::{Plan, Setting};
-use reql_story::Planning;
-use reql_talk::{Found, Move, Planner, Query};
-use reql_told::QueryPlans;
+use reql_plan_spec::{Plan, Setting};
+use reql_query_session_spec::QueryPlans;
+use reql_session_api::{Found, Move, Planner, Query};
+use reql_session_spec::Planning;
+use reql_table_spec::{Limits, TableEngine};
 use std::alloc::Global;
 use std::marker::PhantomData;
 
@@ -34,8 +34,8 @@ impl<C> QueryPlanner<C> {
 }
 
 impl<C> Planning for QueryPlanner<C> {
-    ghost use Rattle.reql_told.specs.Told.{keys_by, talk, comes_by};
-    ghost use Rattle.reql_told.specs.Minding.{plans_are_told};
+    ghost use Rattle.reql_query_session_spec.specs.Told.{keys_by, talk, comes_by};
+    ghost use Rattle.reql_query_session_spec.specs.Minding.{plans_are_told};
 
     type Plan = Plan;
 
@@ -50,8 +50,8 @@ impl<C: TableEngine> Planner for QueryPlanner<C>
 where
     C::View: Drop,
 {
-    ghost use Rattle.reql_talk.specs.Meant.{heard_with, found_of, move_of, next_of};
-    ghost use Rattle.reql_told.specs.Told.{keys_by, talk};
+    ghost use Rattle.reql_session_api.specs.Meant.{heard_with, found_of, move_of, next_of};
+    ghost use Rattle.reql_query_session_spec.specs.Told.{keys_by, talk};
     ghost use Rattle.reql_planner.specs.State.{state_of};
 
     type View = C::View;

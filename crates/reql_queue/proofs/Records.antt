@@ -1,7 +1,7 @@
 -- Pushes and Takes of a queue, seen in the record of a feed.
 use Rattle.std.proofs.Common.{◌≡◌, ℕ, List, [], ◌∷◌, ◌++◌, length, cond, nat_lt, nat_eq, Bool, true, false, ◌||◌, not, refl, sym, ap, ◌∙◌}
 use Rattle.std.proofs.lemmas.List.{take-append-drop, take-map, drop-map, length-map, map-append, append-nil}
-use Rattle.reql_table_machine.specs.Feeds.{Feed, push, push_all, dropping, is_none_queued}
+use Rattle.reql_table_machine_spec.specs.Feeds.{Feed, push, push_all, dropping, is_none_queued}
 use Rattle.reql_queue.specs.Queued.{Queued, pushed, left_by, emptied, given_back, is_none}
 use Rattle.reql_queue.specs.Queued as queued
 use Rattle.reql_queue.specs.Record.{all_pushed, one_shown, all_shown, queueing, PushesAreOfTheRecord, TakesAreOfTheRecord, GivenBackIsAsBefore}

@@ -1,7 +1,7 @@
 -- The queue is what the record of a feed has of it.
 use Rattle.std.specs.Prelude.{◌≡◌, ℕ, List, [], ◌∷◌, map, take, drop}
-use Rattle.reql_table_machine.specs.Feeds.{Feed, push, push_all}
-use Rattle.reql_table_machine.specs.Feeds as feeds
+use Rattle.reql_table_machine_spec.specs.Feeds.{Feed, push, push_all}
+use Rattle.reql_table_machine_spec.specs.Feeds as feeds
 use Rattle.reql_queue.specs.Queued.{Queued, pushed, left_by, emptied, given_back, has_something}
 
 module _ {I : Type 0} where

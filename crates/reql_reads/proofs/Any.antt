@@ -1,6 +1,6 @@
 -- Whether there is any in two lists that are joined.
 use Rattle.std.proofs.Common.{◌≡◌, ℕ, List, [], ◌∷◌, ◌++◌, Bool, true, false, refl}
-use Rattle.reql_plan_law.specs.Reads.{is_any}
+use Rattle.reql_plan_spec.specs.Reads.{is_any}
 
 pub any_first : (xs ys : List ℕ) → is_any xs ≡ true → is_any (xs ++ ys) ≡ true
 any_first [] ys h = cc

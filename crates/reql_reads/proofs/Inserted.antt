@@ -2,7 +2,7 @@
 use Rattle.std.proofs.Common.{◌≡◌, ◌<◌, ◌≤◌, ℕ, List, ◌∷◌, nat_lt, nat_eq, if◌then◌else◌, true, false, refl, ap, arith}
 use Rattle.std.proofs.lemmas.Bool.Decides.{nat_tests}
 use Rattle.std.proofs.lemmas.List.{drop_more}
-use Rattle.reql_plan_law.specs.Reads.{rising, with_slot}
+use Rattle.reql_plan_spec.specs.Reads.{rising, with_slot}
 
 -- one that is above the first goes on
 pub slot_on : (n k : ℕ) (ks : List ℕ) → k < n → with_slot n (k ∷ ks) ≡ k ∷ with_slot n ks

@@ -2,8 +2,8 @@
 use Rattle.std.specs.Prelude.{ℕ, List}
 use Rattle.reql_term.specs.Form.{Form}
 use Rattle.reql_faults.specs.Shapes.{shape}
-use Rattle.reql_write_law.specs.Selecting.{is_chain}
-use Rattle.reql_plan_law.specs.Reads.{but_first, is_slot, feed_reads}
+use Rattle.reql_write_spec.specs.Selecting.{is_chain}
+use Rattle.reql_plan_spec.specs.Reads.{but_first, is_slot, feed_reads}
 use Rattle.reql_reads.specs.declared.first.First.{First}
 use Rattle.reql_reads.specs.declared.first.First.TheVariants as first
 

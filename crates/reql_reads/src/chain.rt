@@ -2,7 +2,7 @@
 ghost use Rattle.std.specs.Prelude.{◌≡◌};
 ghost use Rattle.reql_term.specs.Form.{forms_of};
 ghost use Rattle.reql_term.specs.View.{form_of};
-ghost use Rattle.reql_write_law.specs.Selecting.{selects as selects_of, is_chain as is_chain_of, first_is_chain as first_is_chain_of};
+ghost use Rattle.reql_write_spec.specs.Selecting.{selects as selects_of, is_chain as is_chain_of, first_is_chain as first_is_chain_of};
 
 use reql_term::{Op, Term, Terms};
 

@@ -5,7 +5,7 @@ ghost use Rattle.reql_datum.specs.View.{plain};
 ghost use Rattle.reql_term.specs.Form.{function, variable};
 ghost use Rattle.reql_term.specs.View.{form_of};
 ghost use Rattle.reql_faults.specs.Faults.{is_bound as is_bound_of, is_one as is_one_of};
-ghost use Rattle.reql_plan_law.specs.Reads.{is_compound as is_compound_of, returned as returned_of, element_term as element_term_of, unless_bound, variable_rule, parameter_rule, with_element as with_element_of};
+ghost use Rattle.reql_plan_spec.specs.Reads.{is_compound as is_compound_of, returned as returned_of, element_term as element_term_of, unless_bound, variable_rule, parameter_rule, with_element as with_element_of};
 
 use reql_datum::{Datum, Fault, Memory};
 use reql_rewrite::{Rule, rewrite};

@@ -1,7 +1,7 @@
 // What a term does with its first argument.
 ghost use Rattle.std.specs.Prelude.{◌≡◌, ℕ, List};
 ghost use Rattle.reql_term.specs.Form.{Form};
-ghost use Rattle.reql_plan_law.specs.Reads.{first_reads};
+ghost use Rattle.reql_plan_spec.specs.Reads.{first_reads};
 ghost use Rattle.reql_reads.specs.First.{reads_by};
 
 use reql_term::Op;

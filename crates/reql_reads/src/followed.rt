@@ -3,8 +3,8 @@ ghost use Rattle.std.specs.Prelude.{◌≡◌, ◌++◌, drop, IfOk};
 ghost use Rattle.reql_term.specs.Form.{forms_of};
 ghost use Rattle.reql_term.specs.View.{form_of};
 ghost use Rattle.reql_faults.specs.Shapes.{shape};
-ghost use Rattle.reql_write_law.specs.Selecting.{slots as slots_of_form, slots_named};
-ghost use Rattle.reql_plan_law.specs.Reads.{arms_read, args_of, options_of, feed_reads};
+ghost use Rattle.reql_write_spec.specs.Selecting.{slots as slots_of_form, slots_named};
+ghost use Rattle.reql_plan_spec.specs.Reads.{arms_read, args_of, options_of, feed_reads};
 
 use crate::slotting::{add_named, add_slots, slots};
 use reql_datum::Memory;

@@ -2,8 +2,8 @@
 ghost use Rattle.std.specs.Prelude.{◌≡◌, ◌&&◌, ◌||◌, false};
 ghost use Rattle.reql_term.specs.Form.{forms_of, named_of};
 ghost use Rattle.reql_term.specs.View.{form_of};
-ghost use Rattle.reql_write_law.specs.Selecting.{slots, slots_of, slots_named};
-ghost use Rattle.reql_plan_law.specs.Reads.{is_any, is_closed as is_closed_of, leaks as leaks_of, all_leak as all_leak_of, named_leak as named_leak_of};
+ghost use Rattle.reql_write_spec.specs.Selecting.{slots, slots_of, slots_named};
+ghost use Rattle.reql_plan_spec.specs.Reads.{is_any, is_closed as is_closed_of, leaks as leaks_of, all_leak as all_leak_of, named_leak as named_leak_of};
 
 use reql_term::{Op, Term, TermFields, Terms};
 

@@ -5,7 +5,7 @@ ghost use Rattle.reql_datum.specs.Plain.{time};
 ghost use Rattle.reql_term.specs.Form.{literal, forms_of, named_of};
 ghost use Rattle.reql_term.specs.View.{form_of};
 ghost use Rattle.reql_rewrite.specs.Rewrite.{rewritten};
-ghost use Rattle.reql_plan_law.specs.Reads.{is_now as is_now_of, has_now as has_now_of, any_now as any_now_of, named_now as named_now_of, now_rule};
+ghost use Rattle.reql_plan_spec.specs.Reads.{is_now as is_now_of, has_now as has_now_of, any_now as any_now_of, named_now as named_now_of, now_rule};
 
 use reql_datum::{Datum, Fault, Memory, Moment, Whole};
 use reql_rewrite::{Rule, rewrite};

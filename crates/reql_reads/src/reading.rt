@@ -2,7 +2,7 @@
 ghost use Rattle.std.specs.Prelude.{◌≡◌, ◌++◌, IfOk, drop};
 ghost use Rattle.reql_term.specs.Form.{forms_of, named_of};
 ghost use Rattle.reql_term.specs.View.{form_of};
-ghost use Rattle.reql_plan_law.specs.Reads.{reads, args_reads, all_reads, named_reads, but_first, is_slot as is_slot_of};
+ghost use Rattle.reql_plan_spec.specs.Reads.{reads, args_reads, all_reads, named_reads, but_first, is_slot as is_slot_of};
 ghost use Rattle.reql_reads.specs.First.{reads_by};
 
 use crate::chain::is_chain;

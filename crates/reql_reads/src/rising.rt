@@ -1,7 +1,7 @@
 // The slots that a request looks at.
 ghost use Rattle.std.specs.Prelude.{◌≡◌, ◌<◌, ◌≤◌, ◌++◌, IfOk, drop, get_or, length};
 ghost use Rattle.reql_term.specs.View.{form_of};
-ghost use Rattle.reql_plan_law.specs.Reads.{read_slots as read_slots_of, rising as rising_of, with_slot as with_slot_of};
+ghost use Rattle.reql_plan_spec.specs.Reads.{read_slots as read_slots_of, rising as rising_of, with_slot as with_slot_of};
 
 use crate::followed::add_from;
 use crate::reading::reads_in;

@@ -2,8 +2,8 @@
 ghost use Rattle.std.specs.Prelude.{◌≡◌, ◌++◌, [], IfOk};
 ghost use Rattle.reql_term.specs.Form.{forms_of, named_of};
 ghost use Rattle.reql_term.specs.View.{form_of};
-ghost use Rattle.reql_write_law.specs.Selecting.{slots as slots_of_form, slots_of, slots_named};
-ghost use Rattle.reql_law.specs.Followed.{first_slot as first_slot_of};
+ghost use Rattle.reql_write_spec.specs.Selecting.{slots as slots_of_form, slots_of, slots_named};
+ghost use Rattle.reql_table_spec.specs.Followed.{first_slot as first_slot_of};
 
 use reql_datum::Memory;
 use reql_term::{Term, TermFields, Terms};

@@ -2,12 +2,12 @@
 use Rattle.std.proofs.Common.{◌≡◌, ◌<◌, ◌≤◌, ◌+◌, ◌-◌, ◌^◌, ◌⊎◌, ℕ, zero, suc, true, List, ◌++◌, length, refl, sym, ap, ◌∙◌, inl, inr, arith, append-nil}
 use Rattle.reql_outside.specs.Tape.{counted}
 use Rattle.reql_wire.specs.declared.frame.Frame.{Frame}
-use Rattle.reql_story.specs.Explained.{Life}
-use Rattle.reql_story.specs.Laws.{Leaves}
-use Rattle.reql_story.specs.Tasks.{Talk}
-use Rattle.reql_story.specs.Worlds.{faults_in_at, faults_out_at}
-use Rattle.reql_story.specs.declared.end.End.{End}
-use Rattle.reql_story.specs.declared.end.End.TheVariants as ends
+use Rattle.reql_session_spec.specs.Explained.{Life}
+use Rattle.reql_session_spec.specs.Laws.{Leaves}
+use Rattle.reql_session_spec.specs.Tasks.{Talk}
+use Rattle.reql_session_spec.specs.Worlds.{faults_in_at, faults_out_at}
+use Rattle.reql_session_spec.specs.declared.end.End.{End}
+use Rattle.reql_session_spec.specs.declared.end.End.TheVariants as ends
 
 -- a count that has not come to its last value tells all
 counts_all : (n told : ℕ) → told ≡ counted 0 n → told < 2 ^ 64 - 1 → told ≡ n

@@ -5,8 +5,8 @@ use denote.Enum.Declared.{shape}
 use denote.Param.SendFields.{declared_send, as_row_send}
 use Rattle.std.proofs.Crossing.{crosses}
 use Rattle.reql_datum.proofs.Sends.{documents, datum_send, items_send, name_send}
-use Rattle.reql_write_law.proofs.Sends.{body_send, def_send, write_send}
-use Rattle.reql_law.proofs.Sends.{spec_send}
+use Rattle.reql_write_spec.proofs.Sends.{body_send, def_send, write_send}
+use Rattle.reql_table_spec.proofs.Sends.{spec_send}
 use Rattle.reql_term.proofs.op.Op.TheSendSync as op
 use Rattle.reql_term.proofs.params.Params.TheSendSync as params
 use Rattle.reql_term.proofs.term.Body.TheLaws.TheKnot as knot
@@ -15,27 +15,27 @@ use Rattle.reql_term.specs.contracts.op.Op as op_type
 use Rattle.reql_term.specs.contracts.term.Term as term
 use Rattle.reql_term.specs.contracts.term.Terms as terms
 use Rattle.reql_term.specs.contracts.term.TermFields as term_fields
-use Rattle.reql_plan_law.specs.contracts.parts.Plan as plan
-use Rattle.reql_plan_law.specs.contracts.parts.Prepared as prepared
-use Rattle.reql_plan_law.specs.contracts.parts.TableCmd as table_cmd
-use Rattle.reql_plan_law.specs.contracts.parts.Commanded as commanded
-use Rattle.reql_plan_law.specs.contracts.parts.Opening as opening
-use Rattle.reql_write_law.specs.contracts.command.Summary as summary
+use Rattle.reql_plan_spec.specs.contracts.parts.Plan as plan
+use Rattle.reql_plan_spec.specs.contracts.parts.Prepared as prepared
+use Rattle.reql_plan_spec.specs.contracts.parts.TableCmd as table_cmd
+use Rattle.reql_plan_spec.specs.contracts.parts.Commanded as commanded
+use Rattle.reql_plan_spec.specs.contracts.parts.Opening as opening
+use Rattle.reql_write_spec.specs.contracts.command.Summary as summary
 use Rattle.reql_catalog.specs.contracts.names.Names as names
 use Rattle.reql_catalog.proofs.names.Names.TheSendSync as names_cross
 use Rattle.reql_catalog.specs.contracts.command.CatCmd as cat_cmd
 use Rattle.reql_operand.specs.contracts.world.World as world
 use Rattle.reql_operand.specs.contracts.world.Viewed as viewed
 use Rattle.reql_operand.specs.contracts.world.Database as database
-use Rattle.reql_held.specs.contracts.holding.Held as held
-use Rattle.reql_held.specs.contracts.holding.Read as read
-use Rattle.reql_telling.specs.contracts.feeds.Open as opened
-use Rattle.reql_feeding.specs.contracts.asking.Feeding as feeding
-use Rattle.reql_stages.specs.contracts.stage.Asked as asked
-use Rattle.reql_stages.specs.contracts.stage.Rounds as rounds
-use Rattle.reql_stages.specs.contracts.stage.Then as then_of
-use Rattle.reql_stages.specs.contracts.stage.Refusal as refusal
-use Rattle.reql_stages.specs.contracts.stage.Stage as stage
+use Rattle.reql_plan_context.specs.contracts.holding.Held as held
+use Rattle.reql_plan_context.specs.contracts.holding.Read as read
+use Rattle.reql_plan_results.specs.contracts.feeds.Open as opened
+use Rattle.reql_plan_changes.specs.contracts.asking.Feeding as feeding
+use Rattle.reql_plan_state.specs.contracts.stage.Asked as asked
+use Rattle.reql_plan_state.specs.contracts.stage.Rounds as rounds
+use Rattle.reql_plan_state.specs.contracts.stage.Then as then_of
+use Rattle.reql_plan_state.specs.contracts.stage.Refusal as refusal
+use Rattle.reql_plan_state.specs.contracts.stage.Stage as stage
 use Rattle.reql_plan.specs.contracts.course.Waiting as waiting
 use Rattle.reql_plan.specs.contracts.course.Course as course
 use Rattle.reql_planner.specs.contracts.course.QueryCourse as query

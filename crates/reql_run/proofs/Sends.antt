@@ -12,7 +12,7 @@ use Rattle.reql_table.specs.contracts.table.Table as table
 use Rattle.reql_table.specs.contracts.view.TableTableView.TheImpl as viewing
 use Rattle.reql_core.proofs.Sends.{core_send}
 use Rattle.reql_core.specs.contracts.table_core.TableCore as core
-use Rattle.reql_plan_law.specs.contracts.parts.Plan as plan
+use Rattle.reql_plan_spec.specs.contracts.parts.Plan as plan
 use Rattle.reql_planner.proofs.Sends.{planner_sync}
 use Rattle.reql_planner.specs.contracts.course.QueryCourse as course
 use Rattle.reql_planner.specs.contracts.planner.QueryPlanner as planner

@@ -4,9 +4,9 @@ use Rattle.std.specs.List.Sorted.{IsStrictlySortedBy}
 use Rattle.reql_shared.specs.Sight.{Object, Sight, unused as unused_pass}
 use Rattle.reql_hall.specs.Rooms.{Rooms, pass, unused_desk}
 use Rattle.reql_catalog.specs.declared.catalog.Catalog.{Catalog}
-use Rattle.reql_law.specs.Laws.{AreGood}
-use Rattle.reql_law.specs.Machine.{State, machine, unused}
-use Rattle.reql_law.specs.declared.command.Order.{Order}
+use Rattle.reql_table_spec.specs.Laws.{AreGood}
+use Rattle.reql_table_spec.specs.Machine.{State, machine, unused}
+use Rattle.reql_table_spec.specs.declared.command.Order.{Order}
 use Rattle.reql_desk_moves.specs.Acting.{AtDesk}
 
 abbrev desk : Rooms State Catalog → AtDesk

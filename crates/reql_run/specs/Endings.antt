@@ -1,7 +1,7 @@
 -- The status of a server whose one session ended so.
 use Rattle.std.specs.Prelude.{ℕ}
-use Rattle.reql_story.specs.declared.end.End.{End}
-use Rattle.reql_story.specs.declared.end.End.TheVariants as ends
+use Rattle.reql_session_spec.specs.declared.end.End.{End}
+use Rattle.reql_session_spec.specs.declared.end.End.TheVariants as ends
 
 abbrev pub status_of : End → ℕ
 status_of ends.Closed = 0

@@ -2,15 +2,15 @@
 use Rattle.std.specs.Prelude.{◌≡◌, ◌≤◌, ◌<◌, ◌+◌, ◌⊎◌, ℕ, true, List, [], ◌++◌, length, map}
 use Rattle.reql_outside.specs.Tape.{Tape}
 use Rattle.reql_wire.specs.declared.frame.Frame.{Frame}
-use Rattle.reql_table_machine.specs.Fed.{upto, Whole, takings}
-use Rattle.reql_table_machine.specs.Feeding.{fold, bare}
-use Rattle.reql_law.specs.Laws.{docs_at, known_act}
-use Rattle.reql_law.specs.Table.{feeding}
-use Rattle.reql_story.specs.Explained.{DeskShare, DeskSeen, Life, Explained, sent_of}
-use Rattle.reql_story.specs.Laws.{Handled, LeftAs, IsValid, Opens}
-use Rattle.reql_story.specs.Session.{Event, acts_on, begun, fresh}
-use Rattle.reql_story.specs.Tasks.{Talk}
-use Rattle.reql_story.specs.declared.end.End.TheVariants as ends
+use Rattle.reql_table_machine_spec.specs.Fed.{upto, Whole, takings}
+use Rattle.reql_table_machine_spec.specs.Feeding.{fold, bare}
+use Rattle.reql_table_spec.specs.Laws.{docs_at, known_act}
+use Rattle.reql_table_spec.specs.Table.{feeding}
+use Rattle.reql_session_spec.specs.Explained.{DeskShare, DeskSeen, Life, Explained, sent_of}
+use Rattle.reql_session_spec.specs.Laws.{Handled, LeftAs, IsValid, Opens}
+use Rattle.reql_session_spec.specs.Session.{Event, acts_on, begun, fresh}
+use Rattle.reql_session_spec.specs.Tasks.{Talk}
+use Rattle.reql_session_spec.specs.declared.end.End.TheVariants as ends
 
 module _ {PL : Type 0} (k : Talk PL) {share : DeskShare} {life : Life} (e : Explained k share life) where
   -- Nothing that was given is missing: it is a greeting, the frames that were handled, in order, and what is held; and that is

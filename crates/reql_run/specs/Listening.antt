@@ -10,11 +10,11 @@ use Rattle.reql_hall.specs.Rooms.{Closed}
 use Rattle.reql_catalog.specs.Machine.{opening}
 use Rattle.reql_catalog.specs.declared.catalog.Catalog.{Catalog}
 use Rattle.reql_catalog.specs.declared.command.CatCmd.{CatCmd}
-use Rattle.reql_law.specs.Limits.{usual_limits}
-use Rattle.reql_law.specs.Machine.{State, unused}
-use Rattle.reql_law.specs.declared.command.Order.{Order}
-use Rattle.reql_story.specs.Tasks.{Keys}
-use Rattle.reql_told.specs.Told.{keys_by, talk}
+use Rattle.reql_table_spec.specs.Limits.{usual_limits}
+use Rattle.reql_table_spec.specs.Machine.{State, unused}
+use Rattle.reql_table_spec.specs.declared.command.Order.{Order}
+use Rattle.reql_session_spec.specs.Tasks.{Keys}
+use Rattle.reql_query_session_spec.specs.Told.{keys_by, talk}
 use Rattle.reql_serve.specs.Working.{Outside}
 use Rattle.reql_serve.specs.Many.{AtEnd, ServesMany}
 use Rattle.reql_serve.specs.declared.worker.WorkState.{WorkState}

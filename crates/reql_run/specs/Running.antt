@@ -6,12 +6,12 @@ use Rattle.reql_hall.specs.Rooms.{Closed}
 use Rattle.reql_catalog.specs.Machine.{opening}
 use Rattle.reql_catalog.specs.declared.catalog.Catalog.{Catalog}
 use Rattle.reql_catalog.specs.declared.command.CatCmd.{CatCmd}
-use Rattle.reql_law.specs.Limits.{usual_limits}
-use Rattle.reql_law.specs.Machine.{State, unused}
-use Rattle.reql_law.specs.declared.command.Order.{Order}
-use Rattle.reql_story.specs.Tasks.{Keys}
-use Rattle.reql_story.specs.declared.end.End.{End}
-use Rattle.reql_told.specs.Told.{keys_by, talk}
+use Rattle.reql_table_spec.specs.Limits.{usual_limits}
+use Rattle.reql_table_spec.specs.Machine.{State, unused}
+use Rattle.reql_table_spec.specs.declared.command.Order.{Order}
+use Rattle.reql_session_spec.specs.Tasks.{Keys}
+use Rattle.reql_session_spec.specs.declared.end.End.{End}
+use Rattle.reql_query_session_spec.specs.Told.{keys_by, talk}
 use Rattle.reql_serve.specs.Serving.{ServesOne}
 use Rattle.reql_words.specs.Words.{Asks, Stdio}
 use Rattle.reql_run.specs.Endings.{status_of}

@@ -1,9 +1,9 @@
 // What a server has from the start: names of tables, an engine for each slot, and plans.
 ghost use Rattle.std.specs.Prelude.{◌≡◌, ◌≤◌, map, replicate, IfOk};
 ghost use Rattle.reql_catalog.specs.Machine.{catalogue_machine, opening};
-ghost use Rattle.reql_law.specs.Limits.{usual_limits};
+ghost use Rattle.reql_table_spec.specs.Limits.{usual_limits};
 ghost use Rattle.reql_open_feed.specs.Open.{held_in};
-ghost use Rattle.reql_law.specs.Machine.{unused};
+ghost use Rattle.reql_table_spec.specs.Machine.{unused};
 ghost use Rattle.reql_words.specs.Words.{named};
 ghost use Rattle.reql_core.specs.Core.{state_of};
 
@@ -11,9 +11,9 @@ use crate::outcome::Core;
 use reql_catalog::Catalogue;
 use reql_core::{Opening, TableCore};
 use reql_datum::Name;
-use reql_law::Limits;
 use reql_memory::Memory;
-use reql_told::QueryPlans;
+use reql_query_session_spec::QueryPlans;
+use reql_table_spec::Limits;
 use std::alloc::Global;
 
 /// What a server has before its first session.

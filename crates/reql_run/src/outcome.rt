@@ -6,7 +6,7 @@ use reql_core::TableCore;
 use reql_open_feed::OpenFeed;
 use reql_outside::Link;
 use reql_serve::Ended;
-use reql_story::End;
+use reql_session_spec::End;
 
 /// The engine of each table: every kind of feed may be open on it.
 pub type Core = TableCore<OpenFeed>;

@@ -4,26 +4,26 @@ ghost use Rattle.reql_outside.specs.Tape.{IsFresh};
 ghost use Rattle.reql_words.specs.Words.{asks, named};
 ghost use Rattle.reql_core.specs.Core.{state_of};
 ghost use Rattle.reql_open_feed.specs.Open.{held_in};
-ghost use Rattle.reql_law.specs.Laws.{DocsAtStamp, StampCounts, FeedsComeAndGo, UnsubscribesAreTold, ShutWhereDropped, LooksTellTheTable};
-ghost use Rattle.reql_law.specs.Terms.{PointsShowTheirTerms, RangesShowTheirTerms, LimitsShowTheirTerms};
-ghost use Rattle.reql_plan_law.specs.Looks.{ReadSlotsRise};
-ghost use Rattle.reql_told.specs.Told.{keys_by};
-ghost use Rattle.reql_told.specs.Laws.{AllInOrder, AllFramesHandled, AllLoginRollsFirst, AllWornLate, AllFirstFailed, AllAreAnswered, AllWaitForNothing, AllValidClose, AllFeedsHold, AllSkipsAreSent, AllFeedsAreRead, AllFeedsAreTheirs, AllFeedsAreOpened, AllFeedsBegin, AllFeedsOpen, AllFeedsEnd, AllContinuesAreAnswered, AllNothingKeptBack, AllOfFeedsIsSent, AllFeedsAreTold, AllBatchesAreOfFeeds, AllBatchesAreFull, AllTakesAreOfFeeds, AllIsSaid, AllFeedsAreAskedInTurn, AllRunNoOtherFeeds, AllFeedsEndWithTheirOwn, AllFaultyFeedsAreRefused, AllCrowdedFeedsAreRefused, AllNextFeedsAreRun, AllOpenFeedsAreTold, AllDeniedFeedsAreClosed, AllArmsAreApart, AllTakesArePlaced, AllSubscribesArePlaced, BatchesAgree, InfoIsServers, PlansAreTold};
-ghost use Rattle.reql_told.specs.Looks.{AllAreSeenAtTheirSlots, AllDroppedTablesAreTold, AllLookAtNoOthers, AllReadSlotsAreLookedAt, AllTermsGoOnInWhatWasSeen, AllValuesAreOfWhatWasSeen};
-ghost use Rattle.reql_told.specs.Refusing.{FirstRefusal, ShapeRefusal};
+ghost use Rattle.reql_table_spec.specs.Laws.{DocsAtStamp, StampCounts, FeedsComeAndGo, UnsubscribesAreTold, ShutWhereDropped, LooksTellTheTable};
+ghost use Rattle.reql_table_spec.specs.Terms.{PointsShowTheirTerms, RangesShowTheirTerms, LimitsShowTheirTerms};
+ghost use Rattle.reql_plan_spec.specs.Looks.{ReadSlotsRise};
+ghost use Rattle.reql_query_session_spec.specs.Told.{keys_by};
+ghost use Rattle.reql_query_session_spec.specs.Laws.{AllInOrder, AllFramesHandled, AllLoginRollsFirst, AllWornLate, AllFirstFailed, AllAreAnswered, AllWaitForNothing, AllValidClose, AllFeedsHold, AllSkipsAreSent, AllFeedsAreRead, AllFeedsAreTheirs, AllFeedsAreOpened, AllFeedsBegin, AllFeedsOpen, AllFeedsEnd, AllContinuesAreAnswered, AllNothingKeptBack, AllOfFeedsIsSent, AllFeedsAreTold, AllBatchesAreOfFeeds, AllBatchesAreFull, AllTakesAreOfFeeds, AllIsSaid, AllFeedsAreAskedInTurn, AllRunNoOtherFeeds, AllFeedsEndWithTheirOwn, AllFaultyFeedsAreRefused, AllCrowdedFeedsAreRefused, AllNextFeedsAreRun, AllOpenFeedsAreTold, AllDeniedFeedsAreClosed, AllArmsAreApart, AllTakesArePlaced, AllSubscribesArePlaced, BatchesAgree, InfoIsServers, PlansAreTold};
+ghost use Rattle.reql_query_session_spec.specs.Looks.{AllAreSeenAtTheirSlots, AllDroppedTablesAreTold, AllLookAtNoOthers, AllReadSlotsAreLookedAt, AllTermsGoOnInWhatWasSeen, AllValuesAreOfWhatWasSeen};
+ghost use Rattle.reql_query_session_spec.specs.Refusing.{FirstRefusal, ShapeRefusal};
 ghost use Rattle.reql_run.specs.Running.{IsServed, Serves, Unserved};
 
 use crate::opening::{Start, begin};
 use crate::outcome::{Core, Outcome, status_of};
-use reql_law::{feeds_show_their_terms, table_laws};
 use reql_memory::Refused;
 use reql_outside::{Clock, Dice, Link};
 use reql_planner::QueryPlanner;
-use reql_serve::{Ended, serve_one};
-use reql_told::{
+use reql_query_session_spec::{
     answers_are_placed, changes_are_answered, feeds_are_read, feeds_are_told, first_refusal,
     looks_are_of_the_term, plans_are_told, server_is_told, sessions_hold,
 };
+use reql_serve::{Ended, serve_one};
+use reql_table_spec::{feeds_show_their_terms, table_laws};
 use reql_words::{Command, command_of};
 use std::alloc::Global;
 use std::sync::Wait;

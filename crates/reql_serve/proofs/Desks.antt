@@ -1,8 +1,8 @@
 -- A hall with one desk.
 use Rattle.std.proofs.Common.{◌≡◌, ℕ, zero, suc, ◌≤◌, List, [], ◌∷◌, ◌++◌, length, map, All, refl, sym, ap, subst, ◌∙◌, arith}
 use Rattle.std.specs.List.{AllZip}
-use Rattle.reql_story.specs.Books.{Books, no_books}
-use Rattle.reql_shelf.proofs.There.{there_none}
+use Rattle.reql_session_spec.specs.Books.{Books, no_books}
+use Rattle.reql_open_cursors.proofs.There.{there_none}
 use Rattle.reql_session.specs.Keeping.{Keeps}
 
 abbrev head_or : {X : Type 0} → X → List X → X

@@ -18,19 +18,19 @@ use Rattle.reql_catalog.specs.contracts.names.Names as names
 use Rattle.reql_catalog.proofs.Sends.{catalogue_send}
 use Rattle.reql_hall.specs.contracts.desk.Desk as desk
 use Rattle.reql_hall.proofs.Sends.{desk_send}
-use Rattle.reql_table_machine.specs.contracts.command.Look as look
-use Rattle.reql_table_machine.specs.declared.command.Look.{Look}
-use Rattle.reql_law.specs.contracts.command.Order as order
-use Rattle.reql_law.specs.contracts.engine.MachineState as machine
-use Rattle.reql_law.specs.contracts.reply.Reply as reply
-use Rattle.reql_law.specs.contracts.reply.Told as told
-use Rattle.reql_law.specs.contracts.reply.Heard as heard
-use Rattle.reql_law.specs.declared.command.Order.{Order}
-use Rattle.reql_law.specs.declared.engine.MachineState.{MachineState}
-use Rattle.reql_law.specs.declared.reply.Reply.{Reply}
-use Rattle.reql_law.specs.declared.reply.Told.{Told}
-use Rattle.reql_law.specs.declared.reply.Heard.{Heard}
-use Rattle.reql_story.specs.contracts.end.End as end
+use Rattle.reql_table_machine_spec.specs.contracts.command.Look as look
+use Rattle.reql_table_machine_spec.specs.declared.command.Look.{Look}
+use Rattle.reql_table_spec.specs.contracts.command.Order as order
+use Rattle.reql_table_spec.specs.contracts.engine.MachineState as machine
+use Rattle.reql_table_spec.specs.contracts.reply.Reply as reply
+use Rattle.reql_table_spec.specs.contracts.reply.Told as told
+use Rattle.reql_table_spec.specs.contracts.reply.Heard as heard
+use Rattle.reql_table_spec.specs.declared.command.Order.{Order}
+use Rattle.reql_table_spec.specs.declared.engine.MachineState.{MachineState}
+use Rattle.reql_table_spec.specs.declared.reply.Reply.{Reply}
+use Rattle.reql_table_spec.specs.declared.reply.Told.{Told}
+use Rattle.reql_table_spec.specs.declared.reply.Heard.{Heard}
+use Rattle.reql_session_spec.specs.contracts.end.End as end
 use Rattle.reql_turns.specs.contracts.served.Served as served
 use Rattle.reql_session.specs.contracts.session.Bench as bench
 use Rattle.reql_serve.specs.contracts.worker.Member as member

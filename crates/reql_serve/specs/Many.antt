@@ -8,9 +8,9 @@ use Rattle.reql_shared.specs.Sight.{Object}
 use Rattle.reql_hall.specs.Rooms.{Rooms, Closed, Histories, pass, history_at, rooms_of, histories_of, unused_desk}
 use Rattle.reql_catalog.specs.declared.catalog.Catalog.{Catalog}
 use Rattle.reql_catalog.specs.declared.command.CatCmd.{CatCmd}
-use Rattle.reql_law.specs.Machine.{State}
-use Rattle.reql_law.specs.declared.command.Order.{Order}
-use Rattle.reql_story.specs.Tasks.{Talk}
+use Rattle.reql_table_spec.specs.Machine.{State}
+use Rattle.reql_table_spec.specs.declared.command.Order.{Order}
+use Rattle.reql_session_spec.specs.Tasks.{Talk}
 use Rattle.reql_desk_moves.specs.Acting.{AtDesk}
 use Rattle.reql_serve.specs.Serving.{IsLedTo}
 use Rattle.reql_serve.specs.Working.{Outside, outside, Worked}

@@ -9,12 +9,12 @@ use Rattle.reql_hall.specs.Rooms.{Rooms, Closed, LearnsAll, rooms_of, histories_
 use Rattle.reql_catalog.specs.Machine.{catalogue_machine}
 use Rattle.reql_catalog.specs.declared.catalog.Catalog.{Catalog}
 use Rattle.reql_catalog.specs.declared.command.CatCmd.{CatCmd}
-use Rattle.reql_law.specs.Machine.{State, machine}
-use Rattle.reql_law.specs.declared.command.Order.{Order}
-use Rattle.reql_story.specs.Books.{Books, no_books}
-use Rattle.reql_story.specs.Tasks.{Talk}
-use Rattle.reql_story.specs.declared.end.End.{End}
-use Rattle.reql_talk.specs.World.{IsServed}
+use Rattle.reql_table_spec.specs.Machine.{State, machine}
+use Rattle.reql_table_spec.specs.declared.command.Order.{Order}
+use Rattle.reql_session_spec.specs.Books.{Books, no_books}
+use Rattle.reql_session_spec.specs.Tasks.{Talk}
+use Rattle.reql_session_spec.specs.declared.end.End.{End}
+use Rattle.reql_session_api.specs.World.{IsServed}
 use Rattle.reql_desk_moves.specs.Acting.{AtDesk}
 use Rattle.reql_session.specs.Settling.{working}
 

@@ -6,12 +6,12 @@ use Rattle.reql_net.specs.Doors.{DoorTold}
 use Rattle.reql_hall.specs.Rooms.{Rooms, Sits}
 use Rattle.reql_hall.specs.Shares.{Serves}
 use Rattle.reql_catalog.specs.declared.catalog.Catalog.{Catalog}
-use Rattle.reql_law.specs.Machine.{State}
-use Rattle.reql_story.specs.Books.{Books, no_books}
-use Rattle.reql_story.specs.Tasks.{Talk}
-use Rattle.reql_story.specs.Explained.{Life, ExplainedBy}
-use Rattle.reql_story.specs.Worlds.{IsTold, faults_in_at, faults_out_at}
-use Rattle.reql_talk.specs.World.{AtWork, Gave, IsServed}
+use Rattle.reql_table_spec.specs.Machine.{State}
+use Rattle.reql_session_spec.specs.Books.{Books, no_books}
+use Rattle.reql_session_spec.specs.Tasks.{Talk}
+use Rattle.reql_session_spec.specs.Explained.{Life, ExplainedBy}
+use Rattle.reql_session_spec.specs.Worlds.{IsTold, faults_in_at, faults_out_at}
+use Rattle.reql_session_api.specs.World.{AtWork, Gave, IsServed}
 use Rattle.reql_desk_moves.specs.Acting.{AtDesk}
 use Rattle.reql_session.specs.Settling.{working}
 use Rattle.reql_session.specs.declared.session.Bench.{Bench}

@@ -6,12 +6,12 @@ ghost use Rattle.reql_serve.specs.Serving.{ServesOne};
 
 use reql_catalog::Catalogue;
 use reql_hall::{FinalHall, Hall};
-use reql_law::TableEngine;
 use reql_memory::Refused;
 use reql_outside::{Clock, Dice, Link};
 use reql_session::{Bench, Session};
-use reql_story::Planning;
-use reql_talk::Planner;
+use reql_session_api::Planner;
+use reql_session_spec::Planning;
+use reql_table_spec::TableEngine;
 use reql_turns::{Served, serve_session};
 use std::alloc::Global;
 use std::sync::Wait;

@@ -1,7 +1,7 @@
 // What a door is told of its sessions and of its worker.
 use crate::worker::WorkState;
 use reql_net::{Parting, Rest};
-use reql_story::End;
+use reql_session_spec::End;
 use reql_wire::GreetFault;
 
 // How a session ended.

@@ -8,11 +8,11 @@ use crate::many::Left;
 use crate::worker::{WorkState, Worker};
 use reql_catalog::Catalogue;
 use reql_hall::Desk;
-use reql_law::TableEngine;
 use reql_memory::{Memory, Refused};
 use reql_net::{Door, Post};
 use reql_outside::Link;
 use reql_session::Bench;
+use reql_table_spec::TableEngine;
 use std::alloc::Global;
 
 // The share of the worker of this number in so many sessions.

@@ -1,18 +1,18 @@
 // A worker: it serves the links of its door, one after another, at one desk.
 ghost use Rattle.std.specs.Prelude.{◌≡◌, ◌<◌, [], length};
 ghost use Rattle.reql_hall.specs.Rooms.{Sits};
-ghost use Rattle.reql_story.specs.Books.{no_books};
+ghost use Rattle.reql_session_spec.specs.Books.{no_books};
 ghost use Rattle.reql_serve.specs.Working.{SitsAt, WorkedThere, Linked, Turns, Worked, outside};
 
 use crate::parting::{parting_of, rest_of};
 use reql_catalog::Catalogue;
 use reql_hall::Hall;
-use reql_law::TableEngine;
 use reql_net::{Accept, Door};
 use reql_outside::{Clock, Dice, Link};
 use reql_session::{Bench, Session};
-use reql_story::Planning;
-use reql_talk::Planner;
+use reql_session_api::Planner;
+use reql_session_spec::Planning;
+use reql_table_spec::TableEngine;
 use reql_turns::{Handler, Served, serve_session};
 use std::alloc::Global;
 use std::sync::Wait;

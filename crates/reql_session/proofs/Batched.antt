@@ -4,21 +4,21 @@ use Rattle.std.specs.Prelude.{nat_le}
 use Rattle.std.proofs.lemmas.List.{take-map}
 use Rattle.reql_outside.specs.Tape.{Tape, SendsAll}
 use Rattle.reql_wire.specs.Frames.{spelling}
-use Rattle.reql_story.specs.Requests.{Arm, Shown, Answer, Last, Part, Batch, Internal}
-use Rattle.reql_story.specs.Books.{Books, Cursor, Open, closed, with_rest, with_left, feed_of}
-use Rattle.reql_story.specs.Bodies.{body}
-use Rattle.reql_story.specs.Tasks.{Talk, Next, Telling, Closing, Settled, at, only_tell, close, cut, cut_to, is_long, is_empty, tell, continue_cursor, continue_left}
-use Rattle.reql_story.specs.declared.end.End.{End}
-use Rattle.reql_table_machine.proofs.Tracking.{split}
-use Rattle.reql_talk.specs.World.{AtWork}
+use Rattle.reql_session_spec.specs.Requests.{Arm, Shown, Answer, Last, Part, Batch, Internal}
+use Rattle.reql_session_spec.specs.Books.{Books, Cursor, Open, closed, with_rest, with_left, feed_of}
+use Rattle.reql_session_spec.specs.Bodies.{body}
+use Rattle.reql_session_spec.specs.Tasks.{Talk, Next, Telling, Closing, Settled, at, only_tell, close, cut, cut_to, is_long, is_empty, tell, continue_cursor, continue_left}
+use Rattle.reql_session_spec.specs.declared.end.End.{End}
+use Rattle.reql_table_machine_spec.proofs.Tracking.{split}
+use Rattle.reql_session_api.specs.World.{AtWork}
 use Rattle.reql_outside.specs.Source.{Source}
-use Rattle.reql_law.specs.Machine.{State}
-use Rattle.reql_talk.specs.Meant.{arms_of, shown_of}
-use Rattle.reql_talk.specs.declared.answered.Shown as told
-use Rattle.reql_talk.specs.declared.answered.Arm as coded
+use Rattle.reql_table_spec.specs.Machine.{State}
+use Rattle.reql_session_api.specs.Meant.{arms_of, shown_of}
+use Rattle.reql_session_api.specs.declared.answered.Shown as told
+use Rattle.reql_session_api.specs.declared.answered.Arm as coded
 use Rattle.reql_desk_moves.specs.Acting.{AtDesk}
-use Rattle.reql_shelf.specs.Kept.{feed_kept}
-use Rattle.reql_shelf.specs.declared.open.Open as shelf_open
+use Rattle.reql_open_cursors.specs.Kept.{feed_kept}
+use Rattle.reql_open_cursors.specs.declared.open.Open as shelf_open
 use Rattle.reql_session.specs.Settling.{working, ended_by, Settles, SettlesOrWants}
 use Rattle.reql_session.proofs.Tokens.{found_is}
 use Rattle.reql_session.proofs.Settled.{settles_on, settles_so, leads_want}

@@ -1,16 +1,16 @@
 -- What a frame is begun with: refusals, and answers that are always the same.
 use Rattle.std.proofs.Common.{◌≡◌, ℕ, Bool, true, false, true≢false, cond, is_some, List, [], ◌∷◌, length, map, drop, ◌<◌, ◌≤◌, arith, Option, Some, None, option_map, refl, sym, ap, subst, ◌∙◌}
 use Rattle.reql_outside.specs.Tape.{Tape}
-use Rattle.reql_story.specs.Requests.{Answer, Shown, Client}
-use Rattle.reql_story.specs.Bodies as texts
-use Rattle.reql_story.specs.Books.{Books, Open, has_token}
-use Rattle.reql_story.specs.Tasks.{Talk, Next, done, only_tell, tell_now, refuse, is_long, cut_to, continue_feed, continue_left}
-use Rattle.reql_story.specs.declared.end.End.{End}
-use Rattle.reql_talk.specs.World.{AtWork}
-use Rattle.reql_talk.specs.Meant.{arms_of, shown_of}
-use Rattle.reql_talk.specs.declared.answered.Shown as told
-use Rattle.reql_shelf.specs.Kept.{feed_kept}
-use Rattle.reql_shelf.specs.declared.open.Open as coded
+use Rattle.reql_session_spec.specs.Requests.{Answer, Shown, Client}
+use Rattle.reql_session_spec.specs.Bodies as texts
+use Rattle.reql_session_spec.specs.Books.{Books, Open, has_token}
+use Rattle.reql_session_spec.specs.Tasks.{Talk, Next, done, only_tell, tell_now, refuse, is_long, cut_to, continue_feed, continue_left}
+use Rattle.reql_session_spec.specs.declared.end.End.{End}
+use Rattle.reql_session_api.specs.World.{AtWork}
+use Rattle.reql_session_api.specs.Meant.{arms_of, shown_of}
+use Rattle.reql_session_api.specs.declared.answered.Shown as told
+use Rattle.reql_open_cursors.specs.Kept.{feed_kept}
+use Rattle.reql_open_cursors.specs.declared.open.Open as coded
 use Rattle.reql_session.specs.Settling.{Settles, SettlesOrWants}
 use Rattle.reql_session.proofs.Settled.{settles_done}
 

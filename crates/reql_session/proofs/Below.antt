@@ -1,7 +1,7 @@
 -- Arms whose slots are there.
 use Rattle.std.proofs.Common.{◌≡◌, ℕ, zero, suc, ◌<◌, ◌≤◌, Bool, true, false, true≢false, nat_lt, ◌&&◌, List, [], ◌∷◌, refl, sym, subst, ◌∙◌, arith}
 use Rattle.std.proofs.lemmas.Bool.Decides.{nat_tests}
-use Rattle.reql_talk.specs.declared.answered.Arm as coded
+use Rattle.reql_session_api.specs.declared.answered.Arm as coded
 use Rattle.reql_desk_moves.specs.Acting.{AreThere}
 use Rattle.reql_session.specs.Batches.{are_below}
 

@@ -5,14 +5,14 @@ use Rattle.std.proofs.lemmas.Bool.Decides.{nat_tests}
 use Rattle.reql_datum.specs.Plain.{Plain}
 use Rattle.reql_datum.specs.declared.point.Point.{Point}
 use Rattle.reql_answer.specs.declared.error.ErrorType.{ErrorType}
-use Rattle.reql_law.specs.declared.limits.Limits.{Limits}
+use Rattle.reql_table_spec.specs.declared.limits.Limits.{Limits}
 use Rattle.reql_outside.specs.Tape.{Tape}
-use Rattle.reql_story.specs.Requests.{Arm, Answered, Ends, Unsent, One, Stream, Fault, Wanting, Internal, Atom, Last, Part, Failed, points_from, stamped}
-use Rattle.reql_story.specs.Books.{Books, with_cursor}
-use Rattle.reql_story.specs.Tasks.{Talk, Next, Settled, close, settle, tell, comes_to, batch_size}
-use Rattle.reql_story.specs.declared.end.End.{End}
-use Rattle.reql_talk.specs.World.{AtWork}
-use Rattle.reql_talk.specs.Meant.{Course, next_of}
+use Rattle.reql_session_spec.specs.Requests.{Arm, Answered, Ends, Unsent, One, Stream, Fault, Wanting, Internal, Atom, Last, Part, Failed, points_from, stamped}
+use Rattle.reql_session_spec.specs.Books.{Books, with_cursor}
+use Rattle.reql_session_spec.specs.Tasks.{Talk, Next, Settled, close, settle, tell, comes_to, batch_size}
+use Rattle.reql_session_spec.specs.declared.end.End.{End}
+use Rattle.reql_session_api.specs.World.{AtWork}
+use Rattle.reql_session_api.specs.Meant.{Course, next_of}
 use Rattle.reql_desk_moves.specs.Steps.{put_points}
 use Rattle.reql_session.specs.Settling.{Leads, Settles}
 use Rattle.reql_session.specs.Ending.{Reaches, seen_at, on_course}

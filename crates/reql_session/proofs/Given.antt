@@ -8,25 +8,25 @@ use Rattle.reql_outside.specs.Tape.{Tape}
 use Rattle.reql_datum.specs.Plain.{Plain}
 use Rattle.reql_datum.specs.declared.point.Point.{Point}
 use Rattle.reql_answer.specs.Body.{Stamped}
-use Rattle.reql_feed_law.specs.Shown.{skip_item}
-use Rattle.reql_law.specs.Machine.{State}
-use Rattle.reql_story.specs.Requests.{Arm, Shown, Skip, Answer, Failed, Batch, Internal, stamped}
-use Rattle.reql_story.specs.Books.{Books, Open, closed, with_left, waits, feed_of}
-use Rattle.reql_story.specs.Bodies.{body}
-use Rattle.reql_story.specs.Tasks.{Talk, Next, Telling, Visiting, Settled, Drops, at, done, only_tell, may_tell, fitted, close, tell, batch_of, gone, others, is_empty, skipped_item, change_items}
-use Rattle.reql_story.specs.declared.end.End.{End}
-use Rattle.reql_table_machine.proofs.Tracking.{split}
-use Rattle.reql_talk.specs.Meant.{arm_of, arms_of, no_arm, shown_of}
-use Rattle.reql_talk.specs.World.{AtWork}
-use Rattle.reql_talk.specs.declared.answered.Arm as coded
-use Rattle.reql_talk.specs.declared.answered.Shown as told
+use Rattle.reql_feed_spec.specs.Shown.{skip_item}
+use Rattle.reql_table_spec.specs.Machine.{State}
+use Rattle.reql_session_spec.specs.Requests.{Arm, Shown, Skip, Answer, Failed, Batch, Internal, stamped}
+use Rattle.reql_session_spec.specs.Books.{Books, Open, closed, with_left, waits, feed_of}
+use Rattle.reql_session_spec.specs.Bodies.{body}
+use Rattle.reql_session_spec.specs.Tasks.{Talk, Next, Telling, Visiting, Settled, Drops, at, done, only_tell, may_tell, fitted, close, tell, batch_of, gone, others, is_empty, skipped_item, change_items}
+use Rattle.reql_session_spec.specs.declared.end.End.{End}
+use Rattle.reql_table_machine_spec.proofs.Tracking.{split}
+use Rattle.reql_session_api.specs.Meant.{arm_of, arms_of, no_arm, shown_of}
+use Rattle.reql_session_api.specs.World.{AtWork}
+use Rattle.reql_session_api.specs.declared.answered.Arm as coded
+use Rattle.reql_session_api.specs.declared.answered.Shown as told
 use Rattle.reql_desk_moves.specs.Acting.{AtDesk, AreThere}
 use Rattle.reql_desk_moves.specs.Steps.{Steps, after_closing}
-use Rattle.reql_shelf.specs.Kept.{feed_kept}
-use Rattle.reql_shelf.specs.There as story_there
-use Rattle.reql_shelf.proofs.There.{there_coded, there_meant}
+use Rattle.reql_open_cursors.specs.Kept.{feed_kept}
+use Rattle.reql_open_cursors.specs.There as story_there
+use Rattle.reql_open_cursors.proofs.There.{there_coded, there_meant}
 use Rattle.reql_answer.specs.declared.error.ErrorType.TheVariants as errors
-use Rattle.reql_shelf.specs.declared.open.Open as shelf_open
+use Rattle.reql_open_cursors.specs.declared.open.Open as shelf_open
 use Rattle.reql_session.specs.Batches.{skips, is_none_of, items_of, tells_items}
 use Rattle.reql_session.specs.Settling.{working, Settles}
 use Rattle.reql_session.proofs.Settled.{settles_done, settles_on, settles_closed, leads_steps, leads_want}

@@ -1,15 +1,15 @@
 -- What a session keeps true of what it holds open, where something is opened or closed.
 use Rattle.std.proofs.Common.{◌≡◌, ℕ, false, List, [], ◌∷◌, ◌++◌, refl, sym, subst}
 use Rattle.std.specs.Prelude.{nat_eq}
-use Rattle.reql_story.specs.Requests.{Arm}
-use Rattle.reql_story.specs.Books.{Books, Cursor, Open, has_token, is_open, closed, with_cursor, with_feed, saw_names}
+use Rattle.reql_session_spec.specs.Requests.{Arm}
+use Rattle.reql_session_spec.specs.Books.{Books, Cursor, Open, has_token, is_open, closed, with_cursor, with_feed, saw_names}
 use Rattle.reql_desk_moves.specs.Steps.{after_closing}
-use Rattle.reql_shelf.specs.Quiet.{AllQuiet}
-use Rattle.reql_shelf.specs.There.{AreThere}
-use Rattle.reql_shelf.proofs.Places.{first_off, second_off}
-use Rattle.reql_shelf.proofs.Keeping.{or_off, opens_cursor, opens_feed, closes}
-use Rattle.reql_shelf.proofs.Quiet.{others, none_waits, quiet_elsewhere, quiet_feed}
-use Rattle.reql_shelf.proofs.There.{there_feed, there_closed}
+use Rattle.reql_open_cursors.specs.Quiet.{AllQuiet}
+use Rattle.reql_open_cursors.specs.There.{AreThere}
+use Rattle.reql_open_cursors.proofs.Places.{first_off, second_off}
+use Rattle.reql_open_cursors.proofs.Keeping.{or_off, opens_cursor, opens_feed, closes}
+use Rattle.reql_open_cursors.proofs.Quiet.{others, none_waits, quiet_elsewhere, quiet_feed}
+use Rattle.reql_open_cursors.proofs.There.{there_feed, there_closed}
 use Rattle.reql_session.specs.Keeping.{Keeps}
 
 -- a token that isn't among those of two lists isn't among the first

@@ -2,15 +2,15 @@
 use Rattle.std.proofs.Common.{◌≡◌, ℕ, List, [], ◌∷◌, ◌++◌, filter, not, nat_eq, refl, sym, ap, subst, ◌∙◌, append-nil, Option, Some, None, Bool, true, false, cond, length, nat_lt, arith, suc}
 use Rattle.std.proofs.lemmas.Bool.Decides.{nat_tests}
 use Rattle.std.specs.Option.{unwrap_or}
-use Rattle.reql_story.specs.Requests.{Arm}
-use Rattle.reql_story.specs.Books.{Books, Open, closed, without}
-use Rattle.reql_talk.specs.Meant.{arms_of}
-use Rattle.reql_talk.specs.declared.answered.Arm as coded
+use Rattle.reql_session_spec.specs.Requests.{Arm}
+use Rattle.reql_session_spec.specs.Books.{Books, Open, closed, without}
+use Rattle.reql_session_api.specs.Meant.{arms_of}
+use Rattle.reql_session_api.specs.declared.answered.Arm as coded
 use Rattle.reql_desk_moves.specs.Steps.{after_closing}
-use Rattle.reql_shelf.specs.Quiet.{AllQuiet}
-use Rattle.reql_shelf.proofs.Keeping.{closes}
-use Rattle.reql_shelf.proofs.Quiet.{quiet_closed, quiet_without}
-use Rattle.reql_shelf.proofs.There.{there_closed}
+use Rattle.reql_open_cursors.specs.Quiet.{AllQuiet}
+use Rattle.reql_open_cursors.proofs.Keeping.{closes}
+use Rattle.reql_open_cursors.proofs.Quiet.{quiet_closed, quiet_without}
+use Rattle.reql_open_cursors.proofs.There.{there_closed}
 use Rattle.reql_session.specs.Keeping.{Keeps}
 
 alone : (t : ℕ) (ts : List ℕ) → without t (ts ++ []) ≡ without t ts ++ []

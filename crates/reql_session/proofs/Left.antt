@@ -2,23 +2,23 @@
 use Rattle.std.proofs.Common.{◌≡◌, ℕ, suc, ◌+◌, ◌<◌, ◌≤◌, List, [], ◌∷◌, ◌++◌, length, map, drop, get_or, refl, sym, ap, subst, ◌∙◌, arith}
 use Rattle.std.proofs.lemmas.List.{get_or-map}
 use Rattle.std.proofs.Math.ListN.{drop_of_length-le}
-use Rattle.reql_law.specs.Machine.{State}
-use Rattle.reql_story.specs.Requests.{Arm}
-use Rattle.reql_story.specs.Books as story
-use Rattle.reql_story.specs.Tasks.{Talk}
-use Rattle.reql_story.specs.Session.{Mach, Leaving}
-use Rattle.reql_story.specs.Worlds.{Does, at_desk}
-use Rattle.reql_story.specs.declared.end.End.{End}
-use Rattle.reql_story.proofs.Going.{does_on}
-use Rattle.reql_story.proofs.Steps.{does_none}
-use Rattle.reql_talk.specs.Meant.{arms_of}
+use Rattle.reql_table_spec.specs.Machine.{State}
+use Rattle.reql_session_spec.specs.Requests.{Arm}
+use Rattle.reql_session_spec.specs.Books as story
+use Rattle.reql_session_spec.specs.Tasks.{Talk}
+use Rattle.reql_session_spec.specs.Session.{Mach, Leaving}
+use Rattle.reql_session_spec.specs.Worlds.{Does, at_desk}
+use Rattle.reql_session_spec.specs.declared.end.End.{End}
+use Rattle.reql_session_spec.proofs.Going.{does_on}
+use Rattle.reql_session_spec.proofs.Steps.{does_none}
+use Rattle.reql_session_api.specs.Meant.{arms_of}
 use Rattle.reql_desk_moves.specs.Acting as coded
 use Rattle.reql_desk_moves.specs.Acting.{AtDesk}
 use Rattle.reql_desk_moves.proofs.Stepping.{next_in}
-use Rattle.reql_shelf.specs.Kept.{feed_kept}
-use Rattle.reql_shelf.specs.There.{AreThere, AllThere}
-use Rattle.reql_shelf.specs.declared.open.Open.{Open}
-use Rattle.reql_shelf.proofs.There.{there_coded}
+use Rattle.reql_open_cursors.specs.Kept.{feed_kept}
+use Rattle.reql_open_cursors.specs.There.{AreThere, AllThere}
+use Rattle.reql_open_cursors.specs.declared.open.Open.{Open}
+use Rattle.reql_open_cursors.proofs.There.{there_coded}
 use Rattle.reql_session.specs.Keeping.{arms_open}
 
 -- the arms of the feeds from a place on

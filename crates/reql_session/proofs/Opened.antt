@@ -8,16 +8,16 @@ use Rattle.reql_outside.specs.Tape.{Tape, SendsAll}
 use Rattle.reql_wire.specs.Frames.{spelling}
 use Rattle.reql_datum.specs.Plain.{Plain}
 use Rattle.reql_datum.specs.declared.point.Point.{Point}
-use Rattle.reql_law.specs.Machine.{State}
-use Rattle.reql_law.specs.declared.limits.Limits.{Limits}
-use Rattle.reql_story.specs.Requests.{Arm, Shown, Answer, Internal, Part, Last, Batch, Stream, Feed, stamped}
-use Rattle.reql_story.specs.Books.{Books, Cursor, Open, closed, with_cursor, with_feed}
-use Rattle.reql_story.specs.Bodies.{body}
-use Rattle.reql_story.specs.Tasks.{Talk, Next, Planning, Telling, Settled, at, only_tell, close, settle, tell, cut, cut_to, is_long, comes_to}
-use Rattle.reql_story.specs.declared.end.End.{End}
-use Rattle.reql_talk.specs.World.{AtWork}
-use Rattle.reql_talk.specs.Meant.{Course, shown_of}
-use Rattle.reql_talk.specs.declared.answered.Shown as coded
+use Rattle.reql_table_spec.specs.Machine.{State}
+use Rattle.reql_table_spec.specs.declared.limits.Limits.{Limits}
+use Rattle.reql_session_spec.specs.Requests.{Arm, Shown, Answer, Internal, Part, Last, Batch, Stream, Feed, stamped}
+use Rattle.reql_session_spec.specs.Books.{Books, Cursor, Open, closed, with_cursor, with_feed}
+use Rattle.reql_session_spec.specs.Bodies.{body}
+use Rattle.reql_session_spec.specs.Tasks.{Talk, Next, Planning, Telling, Settled, at, only_tell, close, settle, tell, cut, cut_to, is_long, comes_to}
+use Rattle.reql_session_spec.specs.declared.end.End.{End}
+use Rattle.reql_session_api.specs.World.{AtWork}
+use Rattle.reql_session_api.specs.Meant.{Course, shown_of}
+use Rattle.reql_session_api.specs.declared.answered.Shown as coded
 use Rattle.reql_desk_moves.specs.Acting.{AtDesk}
 use Rattle.reql_desk_moves.specs.Steps.{put_points}
 use Rattle.reql_session.specs.Settling.{working, ended_by, Leads, Settles}

@@ -3,23 +3,23 @@ use Rattle.std.proofs.Common.{◌≡◌, ℕ, ℤ, Bool, true, false, List, [], 
 use Rattle.reql_outside.specs.Source.{Source}
 use Rattle.reql_outside.specs.Tape.{Tape, SendsAll}
 use Rattle.reql_wire.specs.Frames.{spelling}
-use Rattle.reql_law.specs.Machine.{State}
-use Rattle.reql_story.specs.Requests.{Arm, Answer, Answered, Internal, Ends}
-use Rattle.reql_story.specs.Books.{Books}
-use Rattle.reql_story.specs.Bodies.{body}
-use Rattle.reql_story.specs.Tasks.{Talk, Task, Next, Telling, at, done, only_tell, wanted, told, comes_to, batch_size}
-use Rattle.reql_story.specs.Session.{Rest, Come, spoken, goes_on, back_to, leaves}
-use Rattle.reql_story.specs.Worlds.{at_desk, with_out}
-use Rattle.reql_story.specs.declared.end.End.{End}
-use Rattle.reql_story.specs.declared.end.End.TheVariants as ends
-use Rattle.reql_story.proofs.Going.{goes_said}
-use Rattle.reql_story.proofs.Steps.{same_moves, does_step, does_say, does_want, ends_unsent}
-use Rattle.reql_talk.specs.World.{AtWork, Runs, Outcome, place_at, mach_at, world_at, world_of}
-use Rattle.reql_talk.specs.Meant.{Course, next_of}
-use Rattle.reql_talk.proofs.Running.{gave_nothing, runs_on, runs_none, runs_quiet, ends_here_on, ends_quiet}
+use Rattle.reql_table_spec.specs.Machine.{State}
+use Rattle.reql_session_spec.specs.Requests.{Arm, Answer, Answered, Internal, Ends}
+use Rattle.reql_session_spec.specs.Books.{Books}
+use Rattle.reql_session_spec.specs.Bodies.{body}
+use Rattle.reql_session_spec.specs.Tasks.{Talk, Task, Next, Telling, at, done, only_tell, wanted, told, comes_to, batch_size}
+use Rattle.reql_session_spec.specs.Session.{Rest, Come, spoken, goes_on, back_to, leaves}
+use Rattle.reql_session_spec.specs.Worlds.{at_desk, with_out}
+use Rattle.reql_session_spec.specs.declared.end.End.{End}
+use Rattle.reql_session_spec.specs.declared.end.End.TheVariants as ends
+use Rattle.reql_session_spec.proofs.Going.{goes_said}
+use Rattle.reql_session_spec.proofs.Steps.{same_moves, does_step, does_say, does_want, ends_unsent}
+use Rattle.reql_session_api.specs.World.{AtWork, Runs, Outcome, place_at, mach_at, world_at, world_of}
+use Rattle.reql_session_api.specs.Meant.{Course, next_of}
+use Rattle.reql_session_api.proofs.Running.{gave_nothing, runs_on, runs_none, runs_quiet, ends_here_on, ends_quiet}
 use Rattle.reql_desk_moves.specs.Acting.{AtDesk}
 use Rattle.reql_desk_moves.specs.Steps.{Steps}
-use Rattle.reql_course.specs.Walking.{Tools, Walks}
+use Rattle.reql_plan_driver.specs.Walking.{Tools, Walks}
 use Rattle.reql_session.specs.Settling.{working, ended_by, Leads, Settles}
 use Rattle.reql_session.specs.Ending.{on_course}
 

@@ -2,8 +2,8 @@
 use Rattle.std.proofs.Common.{◌≡◌, ◌+◌, ◌≤◌, length, refl, arith}
 use Rattle.std.specs.Fmt.{digits}
 use Rattle.serde_json.proofs.OnLiterals.{serde_json_on_literals}
-use Rattle.reql_story.specs.Requests.{Internal}
-use Rattle.reql_story.specs.Bodies.{body}
+use Rattle.reql_session_spec.specs.Requests.{Internal}
+use Rattle.reql_session_spec.specs.Bodies.{body}
 
 internal_length : length (body Internal) ≡ 50
 unfolding body serde_json_on_literals digits

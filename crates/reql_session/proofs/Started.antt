@@ -2,22 +2,22 @@
 use Rattle.std.proofs.Common.{◌≡◌, ℕ, Bool, false, List, [], ◌++◌, cond, Option, Some, None, sym, ap, subst, ◌∙◌, arith}
 use Rattle.reql_outside.specs.Tape.{Tape}
 use Rattle.reql_datum.specs.declared.point.Point.{Point}
-use Rattle.reql_law.specs.Machine.{State}
-use Rattle.reql_law.specs.declared.limits.Limits.{Limits}
-use Rattle.reql_story.specs.Requests.{Arm, Answered, Ends, Internal, points_from}
-use Rattle.reql_story.specs.Books.{Books, has_token, is_open, opened, saw_names}
-use Rattle.reql_story.specs.Tasks.{Talk, Next, Planning, Settled, at, close, lesser}
-use Rattle.reql_story.specs.declared.end.End.{End}
-use Rattle.reql_talk.specs.World.{AtWork}
-use Rattle.reql_talk.specs.Meant.{Course, next_of, answered_of, arms_of}
-use Rattle.reql_talk.specs.declared.answered.Answered.{Answered as Coded}
-use Rattle.reql_talk.specs.declared.answered.Arm as coded
+use Rattle.reql_table_spec.specs.Machine.{State}
+use Rattle.reql_table_spec.specs.declared.limits.Limits.{Limits}
+use Rattle.reql_session_spec.specs.Requests.{Arm, Answered, Ends, Internal, points_from}
+use Rattle.reql_session_spec.specs.Books.{Books, has_token, is_open, opened, saw_names}
+use Rattle.reql_session_spec.specs.Tasks.{Talk, Next, Planning, Settled, at, close, lesser}
+use Rattle.reql_session_spec.specs.declared.end.End.{End}
+use Rattle.reql_session_api.specs.World.{AtWork}
+use Rattle.reql_session_api.specs.Meant.{Course, next_of, answered_of, arms_of}
+use Rattle.reql_session_api.specs.declared.answered.Answered.{Answered as Coded}
+use Rattle.reql_session_api.specs.declared.answered.Arm as coded
 use Rattle.reql_desk_moves.specs.Acting.{AreThere}
 use Rattle.reql_desk_moves.specs.Steps.{put_points}
-use Rattle.reql_course.specs.Walking.{Tools, Follows, IsSame, stage, given_up}
-use Rattle.reql_course.specs.declared.met.Met.{Met}
-use Rattle.reql_course.specs.declared.following.Reached.{Reached}
-use Rattle.reql_course.specs.declared.following.Reached.TheVariants as reached
+use Rattle.reql_plan_driver.specs.Walking.{Tools, Follows, IsSame, stage, given_up}
+use Rattle.reql_plan_driver.specs.declared.met.Met.{Met}
+use Rattle.reql_plan_driver.specs.declared.following.Reached.{Reached}
+use Rattle.reql_plan_driver.specs.declared.following.Reached.TheVariants as reached
 use Rattle.reql_session.specs.Settling.{working, Leads, Settles}
 use Rattle.reql_session.specs.Ending.{Reaches, on_course}
 use Rattle.reql_session.specs.Keeping.{Keeps}

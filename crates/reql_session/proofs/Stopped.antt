@@ -1,11 +1,11 @@
 -- A STOP, of a feed that waits and of one that doesn't.
 use Rattle.std.proofs.Common.{◌≡◌, ℕ, Bool, true, false, cond, [], Option, Some, None, sym, subst, ◌∙◌}
 use Rattle.reql_outside.specs.Tape.{Tape}
-use Rattle.reql_story.specs.Requests.{Answer, Last}
-use Rattle.reql_story.specs.Books.{Books, Open, has_token, without}
-use Rattle.reql_story.specs.Tasks.{Talk, Telling, Stops, at, close, stop_feed}
-use Rattle.reql_story.specs.declared.end.End.{End}
-use Rattle.reql_talk.specs.World.{AtWork}
+use Rattle.reql_session_spec.specs.Requests.{Answer, Last}
+use Rattle.reql_session_spec.specs.Books.{Books, Open, has_token, without}
+use Rattle.reql_session_spec.specs.Tasks.{Talk, Telling, Stops, at, close, stop_feed}
+use Rattle.reql_session_spec.specs.declared.end.End.{End}
+use Rattle.reql_session_api.specs.World.{AtWork}
 use Rattle.reql_session.specs.Settling.{Settles}
 
 abbrev pub no_more : Answer

@@ -6,18 +6,18 @@ use Rattle.std.proofs.lemmas.List.{append-nil, length-map}
 use Rattle.reql_datum.specs.Plain.{Plain}
 use Rattle.reql_datum.specs.View.{plain}
 use Rattle.reql_datum.specs.declared.datum.Datum.{Datum}
-use Rattle.reql_table_machine.proofs.Tracking.{split}
-use Rattle.reql_story.specs.Requests.{Shown}
-use Rattle.reql_story.specs.Books.{Books, Cursor, Open, has_token, cursor_of, feed_of, closed, with_rest, with_left, waits}
+use Rattle.reql_table_machine_spec.proofs.Tracking.{split}
+use Rattle.reql_session_spec.specs.Requests.{Shown}
+use Rattle.reql_session_spec.specs.Books.{Books, Cursor, Open, has_token, cursor_of, feed_of, closed, with_rest, with_left, waits}
 use Rattle.reql_desk_moves.specs.Acting.{AreThere}
-use Rattle.reql_shelf.specs.Kept.{feed_kept}
-use Rattle.reql_shelf.specs.declared.open.Open as shelf_open
-use Rattle.reql_shelf.specs.Quiet.{IsQuiet, AllQuiet}
-use Rattle.reql_shelf.specs.There.{AllThere}
-use Rattle.reql_shelf.proofs.Places.{first_off, second_off, same_some}
-use Rattle.reql_shelf.proofs.Keeping.{turned, or_off, closes, goes_on, goes_on_with}
-use Rattle.reql_shelf.proofs.Quiet.{none_waits, quiet_elsewhere, quiet_left}
-use Rattle.reql_shelf.proofs.There.{there_closed, there_left, there_found, there_coded}
+use Rattle.reql_open_cursors.specs.Kept.{feed_kept}
+use Rattle.reql_open_cursors.specs.declared.open.Open as shelf_open
+use Rattle.reql_open_cursors.specs.Quiet.{IsQuiet, AllQuiet}
+use Rattle.reql_open_cursors.specs.There.{AllThere}
+use Rattle.reql_open_cursors.proofs.Places.{first_off, second_off, same_some}
+use Rattle.reql_open_cursors.proofs.Keeping.{turned, or_off, closes, goes_on, goes_on_with}
+use Rattle.reql_open_cursors.proofs.Quiet.{none_waits, quiet_elsewhere, quiet_left}
+use Rattle.reql_open_cursors.proofs.There.{there_closed, there_left, there_found, there_coded}
 use Rattle.reql_session.specs.Keeping.{Keeps}
 
 -- what is found of a token is of this token

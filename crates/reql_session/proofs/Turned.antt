@@ -3,18 +3,18 @@ use Rattle.std.proofs.Common.{◌≡◌, inl, inr, ℕ, Bool, true, false, true�
 use Rattle.reql_outside.specs.Tape.{Tape}
 use Rattle.reql_wire.specs.Frames.{Fits, spelling}
 use Rattle.reql_wire.specs.declared.frame.Frame.{Frame}
-use Rattle.reql_story.specs.Requests.{Asked}
-use Rattle.reql_story.specs.Books.{Books, Open, feed_of, has_token, is_open, cursor_of}
-use Rattle.reql_story.specs.Tasks.{Talk, begin, takes_up}
-use Rattle.reql_story.specs.Logins.{Stage, Admitted}
-use Rattle.reql_story.specs.Session.{Rest, Visits, goes_on}
-use Rattle.reql_story.specs.declared.end.End.{End}
-use Rattle.reql_story.proofs.Going.{goes_said}
-use Rattle.reql_story.proofs.Steps.{same_moves, goes_turn, does_begin}
-use Rattle.reql_talk.specs.World.{AtWork, World, Runs, Outcome, mach_at, place_at, world_at, world_of}
-use Rattle.reql_talk.proofs.Running.{runs_on, runs_quiet, ends_here_on}
-use Rattle.reql_shelf.specs.Quiet.{AllQuiet, IsQuiet}
-use Rattle.reql_shelf.proofs.Keeping.{or_off}
+use Rattle.reql_session_spec.specs.Requests.{Asked}
+use Rattle.reql_session_spec.specs.Books.{Books, Open, feed_of, has_token, is_open, cursor_of}
+use Rattle.reql_session_spec.specs.Tasks.{Talk, begin, takes_up}
+use Rattle.reql_session_spec.specs.Logins.{Stage, Admitted}
+use Rattle.reql_session_spec.specs.Session.{Rest, Visits, goes_on}
+use Rattle.reql_session_spec.specs.declared.end.End.{End}
+use Rattle.reql_session_spec.proofs.Going.{goes_said}
+use Rattle.reql_session_spec.proofs.Steps.{same_moves, goes_turn, does_begin}
+use Rattle.reql_session_api.specs.World.{AtWork, World, Runs, Outcome, mach_at, place_at, world_at, world_of}
+use Rattle.reql_session_api.proofs.Running.{runs_on, runs_quiet, ends_here_on}
+use Rattle.reql_open_cursors.specs.Quiet.{AllQuiet, IsQuiet}
+use Rattle.reql_open_cursors.proofs.Keeping.{or_off}
 use Rattle.reql_session.specs.Keeping.{Keeps}
 use Rattle.reql_session.specs.Settling.{Settles, SettlesOrWants}
 use Rattle.reql_session.proofs.Visited.{outcome_on}

@@ -3,17 +3,17 @@ use Rattle.std.proofs.Common.{◌≡◌, ℕ, ◌+◌, ◌<◌, ◌≤◌, Bool,
 use Rattle.std.proofs.lemmas.Bool.Decides.{nat_tests}
 use Rattle.std.proofs.Math.ListN.{drop_of_length-le}
 use Rattle.reql_outside.specs.Tape.{Tape}
-use Rattle.reql_story.specs.Books.{Books, Open, feed_of, has_token}
-use Rattle.reql_story.specs.Tasks.{Talk, Next, Visiting, at, visit, visit_feed, continue_left}
-use Rattle.reql_story.specs.Logins.{Stage}
-use Rattle.reql_story.specs.Session.{Doing, Visits, Rest, goes_on}
-use Rattle.reql_story.specs.declared.end.End.{End}
-use Rattle.reql_story.proofs.Going.{goes_said}
-use Rattle.reql_story.proofs.Steps.{same_moves, does_visit}
-use Rattle.reql_talk.specs.World.{AtWork, World, Runs, Outcome, mach_at, place_at, world_at, world_of}
-use Rattle.reql_talk.proofs.Running.{runs_on, runs_none, runs_quiet, ends_here_on}
-use Rattle.reql_shelf.specs.Quiet.{IsQuiet}
-use Rattle.reql_shelf.proofs.Quiet.{quiet_dropping}
+use Rattle.reql_session_spec.specs.Books.{Books, Open, feed_of, has_token}
+use Rattle.reql_session_spec.specs.Tasks.{Talk, Next, Visiting, at, visit, visit_feed, continue_left}
+use Rattle.reql_session_spec.specs.Logins.{Stage}
+use Rattle.reql_session_spec.specs.Session.{Doing, Visits, Rest, goes_on}
+use Rattle.reql_session_spec.specs.declared.end.End.{End}
+use Rattle.reql_session_spec.proofs.Going.{goes_said}
+use Rattle.reql_session_spec.proofs.Steps.{same_moves, does_visit}
+use Rattle.reql_session_api.specs.World.{AtWork, World, Runs, Outcome, mach_at, place_at, world_at, world_of}
+use Rattle.reql_session_api.proofs.Running.{runs_on, runs_none, runs_quiet, ends_here_on}
+use Rattle.reql_open_cursors.specs.Quiet.{IsQuiet}
+use Rattle.reql_open_cursors.proofs.Quiet.{quiet_dropping}
 use Rattle.reql_session.specs.Keeping.{Keeps}
 use Rattle.reql_session.specs.Settling.{Settles}
 

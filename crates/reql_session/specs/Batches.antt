@@ -2,10 +2,10 @@
 use Rattle.std.specs.Prelude.{ℕ, nat_eq, nat_lt, List, [], ◌∷◌, ◌++◌, cond, take, drop, Some, Bool, true, false, ◌&&◌}
 use Rattle.reql_datum.specs.Plain.{Plain}
 use Rattle.reql_datum.specs.declared.point.Point.{Point}
-use Rattle.reql_story.specs.Requests.{Arm, Shown, Batch, stamped}
-use Rattle.reql_story.specs.Books.{Books, Open, with_left}
-use Rattle.reql_story.specs.Tasks.{Talk, Next, skipped_item, change_items, tell}
-use Rattle.reql_talk.specs.declared.answered.Arm as coded
+use Rattle.reql_session_spec.specs.Requests.{Arm, Shown, Batch, stamped}
+use Rattle.reql_session_spec.specs.Books.{Books, Open, with_left}
+use Rattle.reql_session_spec.specs.Tasks.{Talk, Next, skipped_item, change_items, tell}
+use Rattle.reql_session_api.specs.declared.answered.Arm as coded
 
 -- how many items tell what was left out
 abbrev pub skips : ℕ → ℕ

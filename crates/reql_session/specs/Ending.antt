@@ -2,11 +2,11 @@
 use Rattle.std.specs.Prelude.{◌≡◌, ℕ, List, []}
 use Rattle.reql_datum.specs.declared.point.Point.{Point}
 use Rattle.reql_answer.specs.Body.{Stamped}
-use Rattle.reql_law.specs.declared.limits.Limits.{Limits}
-use Rattle.reql_story.specs.Requests.{Arm, Answered, Ends, points_from, stamped}
-use Rattle.reql_story.specs.Books.{Books}
-use Rattle.reql_story.specs.Tasks.{Talk, Next, Planning, at, batch_size}
-use Rattle.reql_talk.specs.Meant.{Course, next_of}
+use Rattle.reql_table_spec.specs.declared.limits.Limits.{Limits}
+use Rattle.reql_session_spec.specs.Requests.{Arm, Answered, Ends, points_from, stamped}
+use Rattle.reql_session_spec.specs.Books.{Books}
+use Rattle.reql_session_spec.specs.Tasks.{Talk, Next, Planning, at, batch_size}
+use Rattle.reql_session_api.specs.Meant.{Course, next_of}
 use Rattle.reql_desk_moves.specs.Steps.{put_points}
 
 -- the points that an answer names, of slots that were asked in this order

@@ -1,10 +1,10 @@
 -- What a session keeps true of what it holds open.
 use Rattle.std.specs.Prelude.{ℕ, List, ◌++◌, flat_map}
-use Rattle.reql_story.specs.Requests.{Arm}
-use Rattle.reql_story.specs.Books.{Books, Open}
-use Rattle.reql_shelf.specs.Apart.{IsApart}
-use Rattle.reql_shelf.specs.Quiet.{AllQuiet}
-use Rattle.reql_shelf.specs.There.{AllThere}
+use Rattle.reql_session_spec.specs.Requests.{Arm}
+use Rattle.reql_session_spec.specs.Books.{Books, Open}
+use Rattle.reql_open_cursors.specs.Apart.{IsApart}
+use Rattle.reql_open_cursors.specs.Quiet.{AllQuiet}
+use Rattle.reql_open_cursors.specs.There.{AllThere}
 
 -- A token has one thing open at most; who waits, or is still to be visited, is apart from the others and has a feed with nothing
 -- left; and the slots of all arms are there.

@@ -3,15 +3,15 @@ use Rattle.std.specs.Prelude.{◌⊎◌, ℕ, ℤ, List, Bool, true, false, Opti
 use Rattle.reql_outside.specs.Source.{Source}
 use Rattle.reql_outside.specs.Tape.{Tape}
 use Rattle.reql_hall.specs.Rooms.{pass}
-use Rattle.reql_law.specs.Machine.{State}
-use Rattle.reql_story.specs.Books.{Books}
-use Rattle.reql_story.specs.Requests.{Internal}
-use Rattle.reql_story.specs.Tasks.{Talk, Next, only_tell}
-use Rattle.reql_story.specs.Logins.{Stage}
-use Rattle.reql_story.specs.Session.{Mach, Rest, back_to, goes_on}
-use Rattle.reql_story.specs.declared.end.End.{End}
-use Rattle.reql_story.specs.declared.end.End.TheVariants as ends
-use Rattle.reql_talk.specs.World.{AtWork, Runs, Outcome, mach_at, world_of}
+use Rattle.reql_table_spec.specs.Machine.{State}
+use Rattle.reql_session_spec.specs.Books.{Books}
+use Rattle.reql_session_spec.specs.Requests.{Internal}
+use Rattle.reql_session_spec.specs.Tasks.{Talk, Next, only_tell}
+use Rattle.reql_session_spec.specs.Logins.{Stage}
+use Rattle.reql_session_spec.specs.Session.{Mach, Rest, back_to, goes_on}
+use Rattle.reql_session_spec.specs.declared.end.End.{End}
+use Rattle.reql_session_spec.specs.declared.end.End.TheVariants as ends
+use Rattle.reql_session_api.specs.World.{AtWork, Runs, Outcome, mach_at, world_of}
 use Rattle.reql_desk_moves.specs.Acting.{AtDesk}
 
 -- a desk, books, a clock and dice

@@ -1,18 +1,18 @@
 // The bodies of a course's answers that leave nothing open, each as long as it may be.
 ghost use Rattle.std.specs.Prelude.{◌≡◌, IfOk, Some, map};
 ghost use Rattle.reql_datum.specs.View.{plain};
-ghost use Rattle.reql_story.specs.Requests.{Atom, Failed, Last};
-ghost use Rattle.reql_story.specs.Bodies.{body};
-ghost use Rattle.reql_story.specs.Tasks.{Talk, fitted};
+ghost use Rattle.reql_session_spec.specs.Requests.{Atom, Failed, Last};
+ghost use Rattle.reql_session_spec.specs.Bodies.{body};
+ghost use Rattle.reql_session_spec.specs.Tasks.{Talk, fitted};
 ghost use Rattle.reql_session.specs.Ending.{seen_at};
 
 use crate::points::by_slot;
 use reql_answer::{ErrorType, Stamp};
 use reql_bodies::{atom, failed, last};
 use reql_datum::{Datum, Name, Point};
-use reql_law::Limits;
 use reql_memory::Memory;
-use reql_story::Planning;
+use reql_session_spec::Planning;
+use reql_table_spec::Limits;
 use std::alloc::Global;
 
 /// The answer of one document.

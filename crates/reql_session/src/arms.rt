@@ -2,7 +2,7 @@
 ghost use Rattle.std.specs.Prelude.{◌≡◌};
 ghost use Rattle.reql_session.specs.Batches.{are_below};
 
-use reql_talk::Arm;
+use reql_session_api::Arm;
 
 /// Whether the slot of each arm is one of so many.
 pub(crate) fn are_there(arms: &[Arm], slots: u32) -> bool

@@ -1,16 +1,16 @@
 // A frame is begun with.
 ghost use Rattle.std.specs.Prelude.{◌≡◌, ◌⊎◌, ◌≤◌, ℤ, ℕ, List, [], None, Bool, length};
 ghost use Rattle.reql_hall.specs.Rooms.{Sits};
-ghost use Rattle.reql_story.specs.Requests.{Answer, Client, Compile, Waited};
-ghost use Rattle.reql_story.specs.Tasks.{Talk, begin as begin_of, continue_feed as continue_feed_of, continue_on, takes_up, tell_now as tell_now_of, refuse as refuse_of, seen_in};
-ghost use Rattle.reql_story.specs.Books.{cursor_of, feed_of};
-ghost use Rattle.reql_story.specs.Bodies.{body};
-ghost use Rattle.reql_story.specs.Bodies as texts;
-ghost use Rattle.reql_shelf.specs.Kept.{books_of};
+ghost use Rattle.reql_session_spec.specs.Requests.{Answer, Client, Compile, Waited};
+ghost use Rattle.reql_session_spec.specs.Tasks.{Talk, begin as begin_of, continue_feed as continue_feed_of, continue_on, takes_up, tell_now as tell_now_of, refuse as refuse_of, seen_in};
+ghost use Rattle.reql_session_spec.specs.Books.{cursor_of, feed_of};
+ghost use Rattle.reql_session_spec.specs.Bodies.{body};
+ghost use Rattle.reql_session_spec.specs.Bodies as texts;
+ghost use Rattle.reql_open_cursors.specs.Kept.{books_of};
 ghost use Rattle.reql_session.specs.Settling.{Settles, SettlesOrWants, working};
 ghost use Rattle.reql_session.specs.Keeping.{Keeps};
-ghost use Rattle.reql_talk.specs.World.{AtWork};
-ghost use Rattle.reql_talk.specs.Meant.{asked_of};
+ghost use Rattle.reql_session_api.specs.World.{AtWork};
+ghost use Rattle.reql_session_api.specs.Meant.{asked_of};
 ghost use Rattle.reql_outside.specs.Source.{Source};
 
 use crate::continuing::{continue_cursor, continue_left};
@@ -23,11 +23,11 @@ use reql_bodies::{at_wait, client, compile, cut_to, in_use, info, is_long, not_o
 use reql_catalog::Catalogue;
 use reql_datum::Name;
 use reql_hall::{Desk, Hall};
-use reql_law::{Limits, TableEngine};
+use reql_open_cursors::Shelf;
 use reql_outside::{Clock, Dice, Link};
-use reql_shelf::Shelf;
-use reql_story::{End, Planning};
-use reql_talk::{Planner, Query};
+use reql_session_api::{Planner, Query};
+use reql_session_spec::{End, Planning};
+use reql_table_spec::{Limits, TableEngine};
 use std::alloc::Global;
 use std::sync::Wait;
 

@@ -1,9 +1,9 @@
 // Who waits for a change of a table is told of it.
 ghost use Rattle.std.specs.Prelude.{◌≡◌};
 
-use reql_course::Met;
 use reql_outside::Link;
-use reql_talk::Arm;
+use reql_plan_driver::Met;
+use reql_session_api::Arm;
 
 /// Tells the link which tables a course may have changed.
 pub(crate) fn tell_changes<L: Link>(link: &mut L, met: &Met)

@@ -2,14 +2,14 @@
 ghost use Rattle.std.specs.Prelude.{◌≡◌, ◌∷◌, ℤ, ℕ, List, [], false, None, Some, IfOk, drop, length, nat_le, take};
 ghost use Rattle.reql_outside.specs.Source.{Source};
 ghost use Rattle.reql_hall.specs.Rooms.{Sits};
-ghost use Rattle.reql_story.specs.Requests as story;
-ghost use Rattle.reql_story.specs.Books as books;
-ghost use Rattle.reql_story.specs.Books.{closed, cursor_of, feed_of, has_token, with_rest};
-ghost use Rattle.reql_story.specs.Bodies.{body};
-ghost use Rattle.reql_story.specs.Tasks.{Talk, continue_cursor as continue_cursor_of, continue_left as continue_left_of, tell as tell_answer};
-ghost use Rattle.reql_talk.specs.World.{AtWork};
-ghost use Rattle.reql_shelf.specs.Apart.{IsApart};
-ghost use Rattle.reql_shelf.specs.Kept.{books_of, cursor_kept};
+ghost use Rattle.reql_session_spec.specs.Requests as story;
+ghost use Rattle.reql_session_spec.specs.Books as books;
+ghost use Rattle.reql_session_spec.specs.Books.{closed, cursor_of, feed_of, has_token, with_rest};
+ghost use Rattle.reql_session_spec.specs.Bodies.{body};
+ghost use Rattle.reql_session_spec.specs.Tasks.{Talk, continue_cursor as continue_cursor_of, continue_left as continue_left_of, tell as tell_answer};
+ghost use Rattle.reql_session_api.specs.World.{AtWork};
+ghost use Rattle.reql_open_cursors.specs.Apart.{IsApart};
+ghost use Rattle.reql_open_cursors.specs.Kept.{books_of, cursor_kept};
 ghost use Rattle.reql_session.specs.Settling.{SettlesOrWants, working};
 ghost use Rattle.reql_session.specs.Keeping.{Keeps};
 
@@ -20,10 +20,10 @@ use reql_bodies::{batch as feed_batch, cut_to, is_long, last, part};
 use reql_catalog::Catalogue;
 use reql_datum::Memory;
 use reql_hall::{Desk, Hall};
-use reql_law::{Limits, TableEngine};
+use reql_open_cursors::{Cursor, Shelf};
 use reql_outside::Link;
-use reql_shelf::{Cursor, Shelf};
-use reql_story::{End, Planning};
+use reql_session_spec::{End, Planning};
+use reql_table_spec::{Limits, TableEngine};
 use std::alloc::Global;
 use std::sync::Wait;
 

@@ -1,21 +1,21 @@
 // The end of a session: what is open is closed.
 ghost use Rattle.std.specs.Prelude.{◌≡◌, ◌++◌, List, [], map, length};
 ghost use Rattle.reql_hall.specs.Rooms.{Sits};
-ghost use Rattle.reql_story.specs.Requests as story;
-ghost use Rattle.reql_story.specs.Tasks.{Talk};
-ghost use Rattle.reql_story.specs.Session.{Mach, Leaving};
-ghost use Rattle.reql_story.specs.Worlds.{Does, at_desk};
-ghost use Rattle.reql_story.specs.declared.end.End.{End};
-ghost use Rattle.reql_shelf.specs.Kept.{feed_kept};
-ghost use Rattle.reql_shelf.specs.There.{AllThere};
+ghost use Rattle.reql_session_spec.specs.Requests as story;
+ghost use Rattle.reql_session_spec.specs.Tasks.{Talk};
+ghost use Rattle.reql_session_spec.specs.Session.{Mach, Leaving};
+ghost use Rattle.reql_session_spec.specs.Worlds.{Does, at_desk};
+ghost use Rattle.reql_session_spec.specs.declared.end.End.{End};
+ghost use Rattle.reql_open_cursors.specs.Kept.{feed_kept};
+ghost use Rattle.reql_open_cursors.specs.There.{AllThere};
 ghost use Rattle.reql_session.specs.Keeping.{arms_open};
 
 use reql_catalog::Catalogue;
 use reql_desk_moves::leave_arms;
 use reql_hall::{Desk, Hall};
-use reql_law::TableEngine;
-use reql_shelf::Open;
-use reql_story::Planning;
+use reql_open_cursors::Open;
+use reql_session_spec::Planning;
+use reql_table_spec::TableEngine;
 use std::alloc::Global;
 use std::sync::Wait;
 

@@ -1,7 +1,7 @@
 //! The program of a session's frames: each is read, its request is followed at the session's desk, and its answer is told; what
 //! is open is kept, continued, visited, stopped, and closed in the end.
 //!
-//! Contracts see a session as its program has it (`specs/World.antt` of reql_talk), over the session machine of reql_story.
+//! Contracts see a session as its program has it (`specs/World.antt` of reql_session_api), over the session machine of reql_session_spec.
 #![tactic(auto)]
 
 mod answers;

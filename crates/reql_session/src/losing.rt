@@ -2,14 +2,14 @@
 ghost use Rattle.std.specs.Prelude.{◌≡◌, ◌++◌, ℤ, ℕ, List, Some, IfOk, false, length};
 ghost use Rattle.reql_outside.specs.Source.{Source};
 ghost use Rattle.reql_hall.specs.Rooms.{Sits};
-ghost use Rattle.reql_story.specs.Requests as story;
-ghost use Rattle.reql_story.specs.Books as books;
-ghost use Rattle.reql_story.specs.Books.{closed, feed_of, has_token};
-ghost use Rattle.reql_story.specs.Bodies.{body};
-ghost use Rattle.reql_story.specs.Tasks.{Talk, Settled, close};
-ghost use Rattle.reql_shelf.specs.Kept.{books_of};
-ghost use Rattle.reql_shelf.specs.Apart.{IsApart};
-ghost use Rattle.reql_shelf.specs.There.{AllThere};
+ghost use Rattle.reql_session_spec.specs.Requests as story;
+ghost use Rattle.reql_session_spec.specs.Books as books;
+ghost use Rattle.reql_session_spec.specs.Books.{closed, feed_of, has_token};
+ghost use Rattle.reql_session_spec.specs.Bodies.{body};
+ghost use Rattle.reql_session_spec.specs.Tasks.{Talk, Settled, close};
+ghost use Rattle.reql_open_cursors.specs.Kept.{books_of};
+ghost use Rattle.reql_open_cursors.specs.Apart.{IsApart};
+ghost use Rattle.reql_open_cursors.specs.There.{AllThere};
 ghost use Rattle.reql_session.specs.Settling.{Settles, working};
 ghost use Rattle.reql_session.specs.Keeping.{Keeps};
 
@@ -19,10 +19,10 @@ use crate::voice::Voice;
 use reql_catalog::Catalogue;
 use reql_datum::Memory;
 use reql_hall::{Desk, Hall};
-use reql_law::TableEngine;
+use reql_open_cursors::Shelf;
 use reql_outside::Link;
-use reql_shelf::Shelf;
-use reql_story::{End, Planning};
+use reql_session_spec::{End, Planning};
+use reql_table_spec::TableEngine;
 use std::alloc::Global;
 use std::sync::Wait;
 

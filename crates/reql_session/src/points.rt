@@ -1,6 +1,6 @@
 // The points of an answer.
 ghost use Rattle.std.specs.Prelude.{◌≡◌, ◌<◌, ◌≤◌, ◌++◌, [], IfOk, drop, get_or, length};
-ghost use Rattle.reql_story.specs.Requests.{put_point};
+ghost use Rattle.reql_session_spec.specs.Requests.{put_point};
 ghost use Rattle.reql_desk_moves.specs.Steps.{put_points};
 
 use reql_datum::Point;

@@ -1,8 +1,8 @@
 // A session at its desk.
 ghost use Rattle.std.specs.Prelude.{◌≡◌, ◌≤◌, [], IfOk, IfErr, length};
 ghost use Rattle.reql_hall.specs.Rooms.{Sits};
-ghost use Rattle.reql_story.specs.Books.{no_books};
-ghost use Rattle.reql_shelf.specs.Kept.{books_of};
+ghost use Rattle.reql_session_spec.specs.Books.{no_books};
+ghost use Rattle.reql_open_cursors.specs.Kept.{books_of};
 ghost use Rattle.reql_session.specs.Settling.{working};
 ghost use Rattle.reql_session.specs.Keeping.{Keeps};
 
@@ -12,12 +12,12 @@ use crate::visits::visit_all;
 use crate::voice::Voice;
 use reql_catalog::Catalogue;
 use reql_hall::{Desk, Hall};
-use reql_law::{Limits, TableEngine};
 use reql_memory::Refused;
+use reql_open_cursors::Shelf;
 use reql_outside::{Clock, Dice, Link, Rolled};
-use reql_shelf::Shelf;
-use reql_story::{End, Planning};
-use reql_talk::Planner;
+use reql_session_api::Planner;
+use reql_session_spec::{End, Planning};
+use reql_table_spec::{Limits, TableEngine};
 use reql_turns::Handler;
 use reql_wire::Frame;
 use std::alloc::Global;
@@ -130,7 +130,7 @@ where
 {
     ghost use Rattle.std.specs.Prelude.{◌≤◌, [], length};
     ghost use Rattle.reql_hall.specs.Rooms.{Sits};
-    ghost use Rattle.reql_shelf.specs.Kept.{books_of};
+    ghost use Rattle.reql_open_cursors.specs.Kept.{books_of};
     ghost use Rattle.reql_session.specs.Settling.{working};
     ghost use Rattle.reql_session.specs.Keeping.{Keeps};
 

@@ -3,15 +3,15 @@ ghost use Rattle.std.specs.Prelude.{◌≡◌, ◌++◌, IfOk, OnOk, map, get_or
 ghost use Rattle.std.specs.Fmt.{decimal};
 ghost use Rattle.std.specs.Prelude.{codes};
 ghost use Rattle.reql_datum.specs.View.{plain};
-ghost use Rattle.reql_feed_law.specs.Shown.{skip_item};
-ghost use Rattle.reql_story.specs.Requests.{Arm};
-ghost use Rattle.reql_story.specs.Tasks.{change_items, skipped_item};
-ghost use Rattle.reql_talk.specs.Meant.{no_arm, shown_of};
+ghost use Rattle.reql_feed_spec.specs.Shown.{skip_item};
+ghost use Rattle.reql_session_spec.specs.Requests.{Arm};
+ghost use Rattle.reql_session_spec.specs.Tasks.{change_items, skipped_item};
+ghost use Rattle.reql_session_api.specs.Meant.{no_arm, shown_of};
 ghost use Rattle.reql_session.specs.Batches.{items_of};
 
 use reql_datum::{Datum, Fields, Name, Seq};
 use reql_memory::Memory;
-use reql_talk::{Shown, Sort};
+use reql_session_api::{Shown, Sort};
 use std::alloc::{AllocError, Global};
 
 fn skip_text(alloc: Global, count: u64) -> Result<String, AllocError>

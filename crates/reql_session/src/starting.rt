@@ -1,9 +1,9 @@
 // A request is followed to its end.
 ghost use Rattle.std.specs.Prelude.{◌≡◌, ◌≤◌, ◌++◌, ℤ, ℕ, List, [], false, length};
 ghost use Rattle.reql_hall.specs.Rooms.{Sits};
-ghost use Rattle.reql_story.specs.Books.{has_token, is_open, opened};
-ghost use Rattle.reql_story.specs.Tasks.{Planning as IsPlanning, at, lesser as lesser_of};
-ghost use Rattle.reql_shelf.specs.Kept.{books_of};
+ghost use Rattle.reql_session_spec.specs.Books.{has_token, is_open, opened};
+ghost use Rattle.reql_session_spec.specs.Tasks.{Planning as IsPlanning, at, lesser as lesser_of};
+ghost use Rattle.reql_open_cursors.specs.Kept.{books_of};
 ghost use Rattle.reql_session.specs.Settling.{Settles, working};
 ghost use Rattle.reql_session.specs.Keeping.{Keeps};
 
@@ -12,13 +12,13 @@ use crate::ending::end_course;
 use crate::settling::give_up;
 use crate::voice::Voice;
 use reql_catalog::Catalogue;
-use reql_course::{Met, Reached, follow};
 use reql_hall::{Desk, Hall};
-use reql_law::TableEngine;
+use reql_open_cursors::Shelf;
 use reql_outside::{Clock, Dice, Link};
-use reql_shelf::Shelf;
-use reql_story::{End, Planning};
-use reql_talk::Planner;
+use reql_plan_driver::{Met, Reached, follow};
+use reql_session_api::Planner;
+use reql_session_spec::{End, Planning};
+use reql_table_spec::TableEngine;
 use std::alloc::Global;
 use std::sync::Wait;
 

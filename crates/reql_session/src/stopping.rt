@@ -2,13 +2,13 @@
 ghost use Rattle.std.specs.Prelude.{◌≡◌, ℤ, ℕ, List, [], None, Some, IfOk, cond, length};
 ghost use Rattle.reql_outside.specs.Source.{Source};
 ghost use Rattle.reql_hall.specs.Rooms.{Sits};
-ghost use Rattle.reql_story.specs.Books.{Cursor, Open, closed, cursor_of, feed_of};
-ghost use Rattle.reql_story.specs.Requests.{Last};
-ghost use Rattle.reql_story.specs.Bodies.{body};
-ghost use Rattle.reql_story.specs.Tasks.{Talk, Stops, close, stop as stop_of, stop_feed as stop_feed_of};
-ghost use Rattle.reql_law.specs.Machine.{State};
+ghost use Rattle.reql_session_spec.specs.Books.{Cursor, Open, closed, cursor_of, feed_of};
+ghost use Rattle.reql_session_spec.specs.Requests.{Last};
+ghost use Rattle.reql_session_spec.specs.Bodies.{body};
+ghost use Rattle.reql_session_spec.specs.Tasks.{Talk, Stops, close, stop as stop_of, stop_feed as stop_feed_of};
+ghost use Rattle.reql_table_spec.specs.Machine.{State};
 ghost use Rattle.reql_desk_moves.specs.Acting.{AtDesk};
-ghost use Rattle.reql_shelf.specs.Kept.{books_of};
+ghost use Rattle.reql_open_cursors.specs.Kept.{books_of};
 ghost use Rattle.reql_session.specs.Settling.{Settles, working};
 ghost use Rattle.reql_session.specs.Keeping.{Keeps};
 
@@ -18,11 +18,11 @@ use reql_bodies::last;
 use reql_catalog::Catalogue;
 use reql_desk_moves::stop_arms;
 use reql_hall::{Desk, Hall};
-use reql_law::TableEngine;
 use reql_memory::Memory;
+use reql_open_cursors::Shelf;
 use reql_outside::Link;
-use reql_shelf::Shelf;
-use reql_story::{End, Planning};
+use reql_session_spec::{End, Planning};
+use reql_table_spec::TableEngine;
 use std::alloc::Global;
 use std::sync::Wait;
 

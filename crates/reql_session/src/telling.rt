@@ -1,17 +1,17 @@
 // Answers, and how a session goes on after them.
 ghost use Rattle.std.specs.Prelude.{◌≡◌, Bool, None, IfOk, length, ◌+◌, ◌≤◌};
-ghost use Rattle.reql_story.specs.Requests.{Answer, Internal};
-ghost use Rattle.reql_story.specs.Bodies.{body};
-ghost use Rattle.reql_story.specs.Tasks.{Talk, only_tell, tell_now, seen_in};
-ghost use Rattle.reql_talk.specs.World.{AtWork};
+ghost use Rattle.reql_session_spec.specs.Requests.{Answer, Internal};
+ghost use Rattle.reql_session_spec.specs.Bodies.{body};
+ghost use Rattle.reql_session_spec.specs.Tasks.{Talk, only_tell, tell_now, seen_in};
+ghost use Rattle.reql_session_api.specs.World.{AtWork};
 ghost use Rattle.reql_session.specs.Settling.{Settles, ended_by};
 
 use crate::voice::Voice;
 use reql_bodies::{fitted, internal};
-use reql_law::Limits;
 use reql_memory::Memory;
 use reql_outside::Link;
-use reql_story::{End, Planning};
+use reql_session_spec::{End, Planning};
+use reql_table_spec::Limits;
 use std::alloc::Global;
 
 /// How a session goes on after an answer was sent whole or not.

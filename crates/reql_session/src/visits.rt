@@ -2,11 +2,11 @@
 ghost use Rattle.std.specs.Prelude.{◌≡◌, ℤ, ℕ, List, [], length};
 ghost use Rattle.reql_outside.specs.Source.{Source};
 ghost use Rattle.reql_hall.specs.Rooms.{Sits};
-ghost use Rattle.reql_story.specs.Logins.{Stage};
-ghost use Rattle.reql_story.specs.Session.{Visits};
-ghost use Rattle.reql_story.specs.Tasks.{Talk};
-ghost use Rattle.reql_talk.specs.World.{Outcome, world_at};
-ghost use Rattle.reql_shelf.specs.Kept.{books_of};
+ghost use Rattle.reql_session_spec.specs.Logins.{Stage};
+ghost use Rattle.reql_session_spec.specs.Session.{Visits};
+ghost use Rattle.reql_session_spec.specs.Tasks.{Talk};
+ghost use Rattle.reql_session_api.specs.World.{Outcome, world_at};
+ghost use Rattle.reql_open_cursors.specs.Kept.{books_of};
 ghost use Rattle.reql_session.specs.Settling.{working};
 ghost use Rattle.reql_session.specs.Keeping.{Keeps};
 
@@ -14,10 +14,10 @@ use crate::visiting::visit_feed;
 use crate::voice::Voice;
 use reql_catalog::Catalogue;
 use reql_hall::{Desk, Hall};
-use reql_law::{Limits, TableEngine};
+use reql_open_cursors::Shelf;
 use reql_outside::Link;
-use reql_shelf::Shelf;
-use reql_story::{End, Planning};
+use reql_session_spec::{End, Planning};
+use reql_table_spec::{Limits, TableEngine};
 use std::alloc::Global;
 use std::sync::Wait;
 

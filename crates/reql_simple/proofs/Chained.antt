@@ -3,11 +3,11 @@ use Rattle.std.proofs.Common.{◌≡◌, ℕ, List, [], ◌∷◌, Bool, true, f
 use Rattle.reql_datum.specs.Answer.{Answer, ◌>>=◌}
 use Rattle.reql_datum.specs.Plain.{Plain}
 use Rattle.reql_rules.specs.Sizes.{within}
-use Rattle.reql_value.specs.Lazy.{stops, chain, chained, by_first}
-use Rattle.reql_value.specs.Meant.{Meant, one}
-use Rattle.reql_value.specs.Sense.{Sense, plain, value}
-use Rattle.reql_value.specs.Sequenced.{on_groups, sized}
-use Rattle.reql_value.specs.World.{World, Vars}
+use Rattle.reql_value_spec.specs.Lazy.{stops, chain, chained, by_first}
+use Rattle.reql_value_spec.specs.Meant.{Meant, one}
+use Rattle.reql_value_spec.specs.Sense.{Sense, plain, value}
+use Rattle.reql_value_spec.specs.Sequenced.{on_groups, sized}
+use Rattle.reql_value_spec.specs.World.{World, Vars}
 use Rattle.reql_simple.specs.Found.{document}
 use Rattle.reql_simple.specs.Stands.{Stands}
 use Rattle.reql_simple.specs.declared.lying.Found.{Found}

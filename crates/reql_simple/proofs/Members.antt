@@ -9,14 +9,14 @@ use Rattle.reql_datum.specs.Plain.{Plain}
 use Rattle.reql_datum.specs.declared.fault.Fault.{Fault}
 use Rattle.reql_term.specs.Form.{Form}
 use Rattle.reql_rules.specs.Lists.{Bytes, each, object_of}
-use Rattle.reql_value.specs.Meaning.{sense, member_datum, make_object}
-use Rattle.reql_value.specs.Meant.{Meant, one, Given, given, Options}
-use Rattle.reql_value.specs.Sense.{Sense, value, option, options}
-use Rattle.reql_value.specs.Sequenced.{sized}
-use Rattle.reql_value.specs.World.{World, Vars}
+use Rattle.reql_value_spec.specs.Meaning.{sense, member_datum, make_object}
+use Rattle.reql_value_spec.specs.Meant.{Meant, one, Given, given, Options}
+use Rattle.reql_value_spec.specs.Sense.{Sense, value, option, options}
+use Rattle.reql_value_spec.specs.Sequenced.{sized}
+use Rattle.reql_value_spec.specs.World.{World, Vars}
 use Rattle.reql_operand.specs.Seen.{meant}
 use Rattle.reql_operand.specs.declared.value.Value.{Value}
-use Rattle.reql_sense.specs.Bound.{optional}
+use Rattle.reql_term_analysis.specs.Bound.{optional}
 use Rattle.reql_simple.specs.Members.{members_of, Made, MadeBefore}
 use Rattle.reql_simple.specs.Stands.{Stands}
 

@@ -10,11 +10,11 @@ use Rattle.reql_term.specs.declared.term.Term.{Term}
 use Rattle.reql_rules.specs.Faults.{misplaced}
 use Rattle.reql_rules.specs.Lists.{Bytes}
 use Rattle.reql_rules.specs.Sizes.{within}
-use Rattle.reql_value.specs.Meaning.{sense, sense_of, sense_by, is_fit, bound as bound_to}
-use Rattle.reql_value.specs.Sense.{Sense, plain}
-use Rattle.reql_value.specs.Table.{rule_of}
-use Rattle.reql_value.specs.World.{World, Vars}
-use Rattle.reql_sense.specs.Bound.{listed, optional}
+use Rattle.reql_value_spec.specs.Meaning.{sense, sense_of, sense_by, is_fit, bound as bound_to}
+use Rattle.reql_value_spec.specs.Sense.{Sense, plain}
+use Rattle.reql_value_spec.specs.Table.{rule_of}
+use Rattle.reql_value_spec.specs.World.{World, Vars}
+use Rattle.reql_term_analysis.specs.Bound.{listed, optional}
 use Rattle.reql_simple.specs.Found.{document}
 use Rattle.reql_simple.specs.Stands.{Stands, role_sense}
 use Rattle.reql_simple.specs.declared.lying.Found.{Found}

@@ -17,14 +17,14 @@ use Rattle.reql_rules.specs.declared.words.Arith.{Arith}
 use Rattle.reql_rules.specs.declared.words.Arith.TheVariants.{Add, Sub, Mul, Div, Mod}
 use Rattle.reql_rules.specs.declared.words.Relate.{Relate}
 use Rattle.reql_rules.specs.declared.words.Relate.TheVariants.{Eq, Ne, Lt, Le, Gt, Ge}
-use Rattle.reql_value.specs.Fields as fields
-use Rattle.reql_value.specs.Fields.{object_alone, bracket, get_field_rule}
-use Rattle.reql_value.specs.Meant.{Meant, one, Given, given, Calls, Rule}
-use Rattle.reql_value.specs.Scalars.{comparison, arithmetic, negation}
-use Rattle.reql_value.specs.Sense.{Sense, plain, func, sorter, raiser, value, argument, calls_of, strict}
-use Rattle.reql_value.specs.Sequenced.{datum, at_once, sized}
-use Rattle.reql_value.specs.Wanted.{wrong}
-use Rattle.reql_value.specs.World.{World, Vars}
+use Rattle.reql_value_spec.specs.Fields as fields
+use Rattle.reql_value_spec.specs.Fields.{object_alone, bracket, get_field_rule}
+use Rattle.reql_value_spec.specs.Meant.{Meant, one, Given, given, Calls, Rule}
+use Rattle.reql_value_spec.specs.Scalars.{comparison, arithmetic, negation}
+use Rattle.reql_value_spec.specs.Sense.{Sense, plain, func, sorter, raiser, value, argument, calls_of, strict}
+use Rattle.reql_value_spec.specs.Sequenced.{datum, at_once, sized}
+use Rattle.reql_value_spec.specs.Wanted.{wrong}
+use Rattle.reql_value_spec.specs.World.{World, Vars}
 use Rattle.reql_simple.specs.Found.{document, stands, step_of, field_of}
 use Rattle.reql_simple.specs.Stands.{Stands, role_sense}
 use Rattle.reql_simple.specs.declared.lying.Found.{Found}

@@ -4,10 +4,10 @@ use Rattle.reql_datum.specs.Answer.{Answer, ◌>>=◌}
 use Rattle.reql_datum.specs.Plain.{Plain}
 use Rattle.reql_term.specs.Form.{Form}
 use Rattle.reql_rules.specs.Lists.{Bytes, each}
-use Rattle.reql_value.specs.Meaning.{member_datum}
-use Rattle.reql_value.specs.Sense.{Sense, option, options}
-use Rattle.reql_value.specs.World.{World, Vars}
-use Rattle.reql_sense.specs.Bound.{optional}
+use Rattle.reql_value_spec.specs.Meaning.{member_datum}
+use Rattle.reql_value_spec.specs.Sense.{Sense, option, options}
+use Rattle.reql_value_spec.specs.World.{World, Vars}
+use Rattle.reql_term_analysis.specs.Bound.{optional}
 
 -- the members of what these give
 abbrev pub members_of : List (Bytes × Sense) → World → Vars → Answer (List (Bytes × Plain))

@@ -3,13 +3,13 @@ use Rattle.std.specs.Prelude.{◌≡◌, ℕ, List, [], Bool, Ok}
 use Rattle.reql_datum.specs.Plain.{Plain}
 use Rattle.reql_rules.specs.declared.words.Arith.{Arith}
 use Rattle.reql_rules.specs.declared.words.Relate.{Relate}
-use Rattle.reql_value.specs.Fields.{bracket, get_field_rule}
-use Rattle.reql_value.specs.Lazy.{chained}
-use Rattle.reql_value.specs.Meant.{one}
-use Rattle.reql_value.specs.Scalars.{comparison, arithmetic, negation}
-use Rattle.reql_value.specs.Sense.{Sense, plain, value, strict}
-use Rattle.reql_value.specs.Sequenced.{datum}
-use Rattle.reql_value.specs.World.{World, Vars}
+use Rattle.reql_value_spec.specs.Fields.{bracket, get_field_rule}
+use Rattle.reql_value_spec.specs.Lazy.{chained}
+use Rattle.reql_value_spec.specs.Meant.{one}
+use Rattle.reql_value_spec.specs.Scalars.{comparison, arithmetic, negation}
+use Rattle.reql_value_spec.specs.Sense.{Sense, plain, value, strict}
+use Rattle.reql_value_spec.specs.Sequenced.{datum}
+use Rattle.reql_value_spec.specs.World.{World, Vars}
 use Rattle.reql_simple.specs.declared.roles.Role.{Role}
 use Rattle.reql_simple.specs.declared.roles.Role.TheVariants as r
 

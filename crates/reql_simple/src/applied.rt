@@ -1,8 +1,8 @@
 // What operators give of documents that simple terms stand for.
 ghost use Rattle.std.specs.Prelude.{◌≡◌, ℕ, [], ◌∷◌, IfSome};
-ghost use Rattle.reql_value.specs.Lazy.{stops as stops_of};
-ghost use Rattle.reql_value.specs.Sense.{Sense};
-ghost use Rattle.reql_value.specs.World.{Vars as Frames};
+ghost use Rattle.reql_value_spec.specs.Lazy.{stops as stops_of};
+ghost use Rattle.reql_value_spec.specs.Sense.{Sense};
+ghost use Rattle.reql_value_spec.specs.World.{Vars as Frames};
 ghost use Rattle.reql_simple.specs.Found.{document};
 ghost use Rattle.reql_simple.specs.Stands.{Stands, role_sense};
 ghost use Rattle.reql_simple.specs.declared.roles.Role.TheVariants.{Comparison, Arithmetic};

@@ -8,10 +8,10 @@ ghost use Rattle.reql_datum.specs.View.{plain};
 ghost use Rattle.reql_term.specs.Form.{Form};
 ghost use Rattle.reql_term.specs.View.{form_of};
 ghost use Rattle.reql_rules.specs.Lists.{Bytes};
-ghost use Rattle.reql_value.specs.Meaning.{make_object, sense};
-ghost use Rattle.reql_value.specs.World.{World as Seen, Vars as Frames};
+ghost use Rattle.reql_value_spec.specs.Meaning.{make_object, sense};
+ghost use Rattle.reql_value_spec.specs.World.{World as Seen, Vars as Frames};
 ghost use Rattle.reql_operand.specs.Seen.{meant};
-ghost use Rattle.reql_sense.specs.Bound.{bound, optional};
+ghost use Rattle.reql_term_analysis.specs.Bound.{bound, optional};
 ghost use Rattle.reql_simple.specs.Members.{Made};
 ghost use Rattle.reql_simple.specs.Stands.{Stands};
 
@@ -19,8 +19,8 @@ use crate::roles::role_of;
 use crate::terms::found;
 use reql_datum::{Datum, Fault, Fields, Memory, Name};
 use reql_operand::{Value, sized};
-use reql_sense::Vars;
 use reql_term::{Term, TermFields};
+use reql_term_analysis::Vars;
 use std::alloc::Global;
 
 /// The object of what terms by name give, where what each stands for is found. Where there is a
@@ -101,7 +101,7 @@ fn datum_found(term: &Term, limit: u64, vars: &Vars) -> Result<Option<Datum>, Me
 }
 
 // A member after all others, under a copy of its name.
-#[tactic(auto, using(reql_sense::proofs::Objects::put_last))]
+#[tactic(auto, using(reql_term_analysis::proofs::Objects::put_last))]
 fn put_copy(members: &mut Fields, name: &Name, d: Datum) -> Result<(), Memory>
     ensures { (later : List Bytes) →
         IsStrictlySortedBy text_order (keys_of members.old ++ name.now ∷ later)

@@ -1,9 +1,9 @@
 // What operators do with simple terms.
 ghost use Rattle.std.specs.Prelude.{◌≡◌, List, [], IfSome};
 ghost use Rattle.reql_term.specs.Table.{way_of};
-ghost use Rattle.reql_value.specs.Meaning.{sense_by};
-ghost use Rattle.reql_value.specs.Sense.{Sense};
-ghost use Rattle.reql_value.specs.Table.{rule_of};
+ghost use Rattle.reql_value_spec.specs.Meaning.{sense_by};
+ghost use Rattle.reql_value_spec.specs.Sense.{Sense};
+ghost use Rattle.reql_value_spec.specs.Table.{rule_of};
 ghost use Rattle.reql_simple.specs.Stands.{role_sense};
 
 use reql_rules::{Arith, Relate};

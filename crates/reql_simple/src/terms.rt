@@ -1,19 +1,19 @@
 // What simple terms stand for.
 ghost use Rattle.std.specs.Prelude.{◌≡◌, [], ◌∷◌, IfSome};
 ghost use Rattle.reql_term.specs.View.{form_of};
-ghost use Rattle.reql_value.specs.Meaning.{sense, sense_of, bound as bound_to};
-ghost use Rattle.reql_value.specs.Lazy.{chained};
-ghost use Rattle.reql_value.specs.Sense.{Sense, plain};
-ghost use Rattle.reql_value.specs.World.{Vars as Frames, variable_at, implicit_at};
-ghost use Rattle.reql_sense.specs.Bound.{bound, listed, optional};
+ghost use Rattle.reql_value_spec.specs.Meaning.{sense, sense_of, bound as bound_to};
+ghost use Rattle.reql_value_spec.specs.Lazy.{chained};
+ghost use Rattle.reql_value_spec.specs.Sense.{Sense, plain};
+ghost use Rattle.reql_value_spec.specs.World.{Vars as Frames, variable_at, implicit_at};
+ghost use Rattle.reql_term_analysis.specs.Bound.{bound, listed, optional};
 ghost use Rattle.reql_simple.specs.Found.{document};
 ghost use Rattle.reql_simple.specs.Stands.{Stands, role_sense};
 
 use crate::applied::{by_one, by_two, stops};
 use crate::lying::{Found, kept, within};
 use crate::roles::{Role, role_of};
-use reql_sense::{Vars, is_fit, lookup, lookup_implicit};
 use reql_term::{Op, Term, TermFields};
+use reql_term_analysis::{Vars, is_fit, lookup, lookup_implicit};
 
 /// What a term stands for, where that is found: literals and variables, fields of these, and
 /// comparisons, arithmetic, AND, OR and NOT of one or two such terms. Where there is a fault, or

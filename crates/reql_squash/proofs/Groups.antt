@@ -18,9 +18,9 @@ use Rattle.reql_rules.specs.Sorting.{distinct}
 use Rattle.reql_rules.specs.Types.{same}
 use Rattle.reql_rules.proofs.Groups.{hold_each_once}
 use Rattle.reql_rules.proofs.Distinct.{holds_each_once}
-use Rattle.reql_feed_law.specs.Items.{Difference}
-use Rattle.reql_feed_law.specs.Net.{Keyed, bag_net, of_key, keyed, range_net}
-use Rattle.reql_feed_law.specs.Shown.{read}
+use Rattle.reql_feed_spec.specs.Items.{Difference}
+use Rattle.reql_feed_spec.specs.Net.{Keyed, bag_net, of_key, keyed, range_net}
+use Rattle.reql_feed_spec.specs.Shown.{read}
 use Rattle.reql_squash.specs.Told.{group_net, groups_net, members_net}
 
 abbrev Pair : Type 0

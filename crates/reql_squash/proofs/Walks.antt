@@ -9,11 +9,11 @@ use Rattle.reql_bag.specs.Bag.{in_order, less_all}
 use Rattle.reql_rules.specs.Types.{same, is_null}
 use Rattle.reql_datum.proofs.Back.{listed_back}
 use Rattle.reql_datum.specs.declared.datum.Datum.TheVariants as datums
-use Rattle.reql_feed_law.specs.declared.kind.FeedKind.{FeedKind}
-use Rattle.reql_feed_law.specs.Feeds.{bare, last_stamp, net, net_differences}
-use Rattle.reql_feed_law.specs.Items.{Difference, of_values, paired, present, point_items}
-use Rattle.reql_feed_law.specs.Net.{olds, news, last_new, point_net, listed}
-use Rattle.reql_feed_law.specs.Shown.{or_null, read}
+use Rattle.reql_feed_spec.specs.declared.kind.FeedKind.{FeedKind}
+use Rattle.reql_feed_spec.specs.Feeds.{bare, last_stamp, net, net_differences}
+use Rattle.reql_feed_spec.specs.Items.{Difference, of_values, paired, present, point_items}
+use Rattle.reql_feed_spec.specs.Net.{olds, news, last_new, point_net, listed}
+use Rattle.reql_feed_spec.specs.Shown.{or_null, read}
 use Rattle.reql_squash.specs.Told.{items_seen, told, side_of, sides_of, members_net, group_net, groups_net}
 
 pub olds_heard : (vs : List Plain) → olds (map read vs) ≡ sides_of (codes "old_val") vs

@@ -4,9 +4,9 @@ use Rattle.reql_datum.specs.Plain.{Plain, array}
 use Rattle.reql_datum.specs.Plain.{listed as listed_in}
 use Rattle.reql_datum.specs.View.{plain}
 use Rattle.reql_datum.specs.declared.datum.Datum.{Datum}
-use Rattle.reql_feed_law.specs.Items.{Difference, present}
-use Rattle.reql_feed_law.specs.Net.{listed, keyed, bag_net}
-use Rattle.reql_feed_law.specs.Shown.{Shows, shown, read, member_at}
+use Rattle.reql_feed_spec.specs.Items.{Difference, present}
+use Rattle.reql_feed_spec.specs.Net.{listed, keyed, bag_net}
+use Rattle.reql_feed_spec.specs.Shown.{Shows, shown, read, member_at}
 
 -- an item with its stamp, as what it stands for
 abbrev pub item_seen : ℕ × Datum → ℕ × Plain

@@ -1,9 +1,9 @@
 // Items as a client reads them.
 ghost use Rattle.std.specs.Prelude.{◌≡◌, ◌++◌, map, IfOk, option_map, option_and_then};
 ghost use Rattle.reql_datum.specs.View.{plain};
-ghost use Rattle.reql_feed_law.specs.Items.{present};
-ghost use Rattle.reql_feed_law.specs.Net.{listed, keyed};
-ghost use Rattle.reql_feed_law.specs.Shown.{read};
+ghost use Rattle.reql_feed_spec.specs.Items.{present};
+ghost use Rattle.reql_feed_spec.specs.Net.{listed, keyed};
+ghost use Rattle.reql_feed_spec.specs.Shown.{read};
 ghost use Rattle.reql_squash.specs.Told.{side_of, sides_of};
 
 use reql_datum::{Datum, Items, Memory};

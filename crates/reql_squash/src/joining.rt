@@ -2,17 +2,17 @@
 ghost use Rattle.std.specs.Prelude.{◌≡◌, [], ◌++◌, map, Some, slice_get, IfOk, MatchOption, option_map};
 ghost use Rattle.reql_datum.specs.View.{plain};
 ghost use Rattle.reql_rules.specs.Types.{same};
-ghost use Rattle.reql_feed_law.specs.Feeds.{bare, last_stamp, net, net_differences};
-ghost use Rattle.reql_feed_law.specs.Items.{paired, point_items};
-ghost use Rattle.reql_feed_law.specs.Net.{keyed, point_net, range_net};
-ghost use Rattle.reql_feed_law.specs.Shown.{or_null, read};
+ghost use Rattle.reql_feed_spec.specs.Feeds.{bare, last_stamp, net, net_differences};
+ghost use Rattle.reql_feed_spec.specs.Items.{paired, point_items};
+ghost use Rattle.reql_feed_spec.specs.Net.{keyed, point_net, range_net};
+ghost use Rattle.reql_feed_spec.specs.Shown.{or_null, read};
 ghost use Rattle.reql_squash.specs.Told.{items_seen, told, members_net, group_net, groups_net};
 
 use crate::heard::{inner_of, key_of, side, sides};
 use crate::printed::Printer;
 use reql_bag::{Parted, difference, in_order};
 use reql_datum::{Datum, Items, Memory, Seq, compare};
-use reql_feed_law::FeedKind;
+use reql_feed_spec::FeedKind;
 use reql_group::{Groups, group_beside};
 use std::alloc::Global;
 

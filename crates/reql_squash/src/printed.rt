@@ -2,8 +2,8 @@
 ghost use Rattle.std.specs.Prelude.{◌≡◌, [], ◌∷◌, ◌++◌, codes, length, map, IfOk, OnOk, option_map, false};
 ghost use Rattle.reql_datum.specs.Members.{put};
 ghost use Rattle.reql_datum.specs.View.{plain};
-ghost use Rattle.reql_feed_law.specs.Items.{of_values, paired};
-ghost use Rattle.reql_feed_law.specs.Shown.{shown, or_null, type_of};
+ghost use Rattle.reql_feed_spec.specs.Items.{of_values, paired};
+ghost use Rattle.reql_feed_spec.specs.Shown.{shown, or_null, type_of};
 ghost use Rattle.reql_squash.specs.Told.{items_seen, without_offsets, told};
 
 use reql_datum::{Datum, Fields, Items, Memory, Name};

@@ -7,8 +7,8 @@ use Rattle.reql_datum.specs.Order.{order}
 use Rattle.reql_datum.specs.Plain.{Plain}
 use Rattle.reql_datum.specs.Total.{order_total}
 use Rattle.reql_term.specs.Views.{Document}
-use Rattle.reql_write_law.specs.Laws.{AllCome}
-use Rattle.reql_write_law.specs.Treated.{Changed, set_at, changed, changed_by}
+use Rattle.reql_write_spec.specs.Laws.{AllCome}
+use Rattle.reql_write_spec.specs.Treated.{Changed, set_at, changed, changed_by}
 use Rattle.reql_table.specs.Edits.{key_at, seen_if, turned}
 use Rattle.reql_table.specs.declared.refile.Turn.{Turn}
 

@@ -17,8 +17,8 @@ use Rattle.reql_ptree.specs.Pairs.{AreRising, find, put, without}
 use Rattle.reql_rules.specs.Lists.{array_of}
 use Rattle.reql_rules.specs.Sorting.{into_place, sorted}
 use Rattle.reql_term.specs.Views.{Document, Entry, Index, entry_order}
-use Rattle.reql_value.specs.Index.{entries, document_entries, index_list}
-use Rattle.reql_value.proofs.IndexLists.{in_order}
+use Rattle.reql_value_spec.specs.Index.{entries, document_entries, index_list}
+use Rattle.reql_value_spec.proofs.IndexLists.{in_order}
 use Rattle.reql_table.specs.Keys.{key_of, pair_of, pairs_of, primary_in}
 use Rattle.reql_table.specs.Edits.{entry_key, taken, filed, all_filed, entries_if}
 use Rattle.reql_table.proofs.Rising.{key_order, pairs_rise}

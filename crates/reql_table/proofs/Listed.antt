@@ -14,7 +14,7 @@ use Rattle.reql_datum.specs.Members.{AreRising, find, put, without, text_order}
 use Rattle.reql_datum.specs.Order.{order}
 use Rattle.reql_rules.specs.Lists.{Bytes}
 use Rattle.reql_term.specs.Views.{Document, Index}
-use Rattle.reql_write_law.specs.Treated.{Changed, changed}
+use Rattle.reql_write_spec.specs.Treated.{Changed, changed}
 use Rattle.reql_table.specs.Edits.{renamed, key_at, seen_if, turned}
 use Rattle.reql_table.specs.Seen.{Numbered, Standing, unnumbered, numbered, numbered_of, indexes_of, AreNumbered, IsFiled, Keeps}
 use Rattle.reql_table.specs.declared.filed.FiledIndex.{FiledIndex}

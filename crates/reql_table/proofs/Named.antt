@@ -7,8 +7,8 @@ use Rattle.reql_datum.specs.Members.{AreRising, find}
 use Rattle.reql_datum.specs.Order.{order}
 use Rattle.reql_datum.specs.Plain.{text}
 use Rattle.reql_term.specs.Views.{Document, Index, index_of, AreInOrder, AreOf}
-use Rattle.reql_value.specs.Index.{index_list}
-use Rattle.reql_value.proofs.IndexLists.{in_order}
+use Rattle.reql_value_spec.specs.Index.{index_list}
+use Rattle.reql_value_spec.proofs.IndexLists.{in_order}
 use Rattle.reql_rules.specs.Lists.{Bytes}
 use Rattle.reql_table.specs.Seen.{Numbered, Standing, unnumbered, documents_of, indexes_of, entries_at, numbered, IsFiled}
 use Rattle.reql_table.specs.declared.filed.FiledIndex.{FiledIndex}

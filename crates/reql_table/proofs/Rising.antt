@@ -8,8 +8,8 @@ use Rattle.reql_memory.specs.Sorted.{AreRisingBy}
 use Rattle.reql_datum.specs.Order.{order}
 use Rattle.reql_datum.specs.Plain.{Plain}
 use Rattle.reql_term.specs.Views.{Document, Entry, entry_order, AreInOrder, index_of}
-use Rattle.reql_value.specs.Index.{index_list}
-use Rattle.reql_value.proofs.IndexLists.{in_order}
+use Rattle.reql_value_spec.specs.Index.{index_list}
+use Rattle.reql_value_spec.proofs.IndexLists.{in_order}
 use Rattle.reql_ptree.specs.Pairs.{AreRising}
 use Rattle.reql_table.specs.Keys.{key_of, pairs_of}
 use Rattle.reql_table.specs.Seen.{IsFiled}

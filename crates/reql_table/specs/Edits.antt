@@ -8,9 +8,9 @@ use Rattle.reql_datum.specs.declared.datum.Datum.{Datum}
 use Rattle.reql_ptree.specs.Pairs.{put, without}
 use Rattle.reql_term.specs.Views.{Document, Index}
 use Rattle.reql_rules.specs.Lists.{Bytes, array_of}
-use Rattle.reql_value.specs.Index.{entries}
-use Rattle.reql_write_law.specs.Treated.{Changed, set_at}
-use Rattle.reql_write_law.specs.declared.command.Change.{Change}
+use Rattle.reql_value_spec.specs.Index.{entries}
+use Rattle.reql_write_spec.specs.Treated.{Changed, set_at}
+use Rattle.reql_write_spec.specs.declared.command.Change.{Change}
 use Rattle.reql_table.specs.declared.refile.Turn.{Turn}
 
 abbrev Pairs : Type 0

@@ -9,7 +9,7 @@ use Rattle.reql_datum.specs.Order.{order}
 use Rattle.reql_datum.specs.Plain.{Plain}
 use Rattle.reql_term.specs.Views.{Document, Entry, Index, index_of}
 use Rattle.reql_rules.specs.Lists.{Bytes}
-use Rattle.reql_value.specs.Index.{index_list, index_lists}
+use Rattle.reql_value_spec.specs.Index.{index_list, index_lists}
 use Rattle.reql_table.specs.Keys.{pairs_of}
 use Rattle.reql_table.specs.declared.filed.FiledIndex.{FiledIndex}
 

@@ -5,7 +5,7 @@ use Rattle.reql_datum.specs.Members.{find}
 use Rattle.reql_datum.specs.Plain.{Plain}
 use Rattle.reql_rules.specs.Lists.{Bytes}
 use Rattle.reql_term.specs.Views.{Document, Index}
-use Rattle.reql_value.specs.Index.{index_list}
+use Rattle.reql_value_spec.specs.Index.{index_list}
 use Rattle.reql_table.specs.Keys.{pairs_of}
 use Rattle.reql_table.specs.Seen.{Numbered, Standing, documents_of, numbered_of, next_of}
 

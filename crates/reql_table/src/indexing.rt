@@ -3,7 +3,7 @@ ghost use Rattle.std.specs.Prelude.{◌≡◌, [], map, IfOk};
 ghost use Rattle.reql_datum.specs.View.{plain};
 ghost use Rattle.reql_ptree.specs.Pairs.{AreRising, put};
 ghost use Rattle.reql_term.specs.Views.{index_of};
-ghost use Rattle.reql_value.specs.Index.{index_list};
+ghost use Rattle.reql_value_spec.specs.Index.{index_list};
 ghost use Rattle.reql_table.specs.Edits.{entry_key as entry_key_of, taken, filed, all_filed};
 ghost use Rattle.reql_table.specs.Inside.{pair};
 ghost use Rattle.reql_table.specs.Keys.{pairs_of};

@@ -18,5 +18,5 @@ mod walk;
 
 pub use edit::Prepared;
 pub use reql_term::{Entries, IndexDef, Range, TableView, ViewFault};
-pub use reql_write_law::Change;
+pub use reql_write_spec::Change;
 pub use table::Table;

@@ -3,7 +3,7 @@ ghost use Rattle.std.specs.Prelude.{◌≡◌, ◌⊎◌, List, map, true, IfOk}
 ghost use Rattle.std.specs.List.{AllByRecursion};
 ghost use Rattle.reql_ptree.specs.Pairs.{AreRising, find};
 ghost use Rattle.reql_term.specs.Views.{Document, index_of};
-ghost use Rattle.reql_value.specs.Index.{index_list};
+ghost use Rattle.reql_value_spec.specs.Index.{index_list};
 ghost use Rattle.reql_table.specs.Edits.{entries_if as entries_if_of, seen_if, key_at, turned};
 ghost use Rattle.reql_table.specs.Keys.{pairs_of};
 ghost use Rattle.reql_table.specs.Seen.{numbered, IsFiled};

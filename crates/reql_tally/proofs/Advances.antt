@@ -6,7 +6,7 @@ use Rattle.std.proofs.lemmas.List.{drop-map}
 use Rattle.std.proofs.Math.Seq.{take-length}
 use Rattle.reql_datum.specs.Plain.{Plain}
 use Rattle.reql_term.specs.Views.{Document}
-use Rattle.reql_feed_law.specs.Feeds.{changed_by}
+use Rattle.reql_feed_spec.specs.Feeds.{changed_by}
 use Rattle.reql_tally.specs.Views.{docs_after}
 
 -- a look at a place, seen through what elements stand for

@@ -2,12 +2,12 @@
 use Rattle.std.proofs.Common.{◌≡◌, ◌≤◌, inl, inr, ℕ, suc, ◌+◌, nat_lt, List, [], ◌∷◌, ◌++◌, length, map, drop, Option, Some, None, Bool, true, false, cond, refl, sym, ap, subst, ◌∙◌, arith}
 use Rattle.std.proofs.lemmas.Bool.Decides.{nat_tests}
 use Rattle.reql_datum.specs.Plain.{Plain}
-use Rattle.reql_table_machine.proofs.Tracking.{split}
-use Rattle.reql_feed_law.specs.Feeds.{bare}
-use Rattle.reql_law.specs.Laws.{docs_at}
-use Rattle.reql_law.specs.Machine.{State, after, reply, entry_of}
-use Rattle.reql_law.specs.Table.{Held}
-use Rattle.reql_law.specs.declared.command.Entry.{Entry}
+use Rattle.reql_table_machine_spec.proofs.Tracking.{split}
+use Rattle.reql_feed_spec.specs.Feeds.{bare}
+use Rattle.reql_table_spec.specs.Laws.{docs_at}
+use Rattle.reql_table_spec.specs.Machine.{State, after, reply, entry_of}
+use Rattle.reql_table_spec.specs.Table.{Held}
+use Rattle.reql_table_spec.specs.declared.command.Entry.{Entry}
 use Rattle.reql_load.specs.Folded.{folded}
 use Rattle.reql_tally.specs.Past.{OpenedFeed, Sent, feeds_opened, batches_taken, opened_by, sent_to, latest}
 use Rattle.reql_tally.specs.Tallied.{IsCount, FoldsUp, value_of}

@@ -4,18 +4,18 @@ use Rattle.std.proofs.lemmas.List.{map-append, take-map, length-map}
 use Rattle.std.proofs.Math.Seq.{drop-append_seam}
 use Rattle.reql_datum.specs.Plain.{Plain}
 use Rattle.reql_term.specs.Views.{Document}
-use Rattle.reql_write_law.specs.Treated.{Changed}
+use Rattle.reql_write_spec.specs.Treated.{Changed}
 use Rattle.reql_shared.specs.Machine.{replay}
-use Rattle.reql_table_machine.specs.Feeding.{changed}
-use Rattle.reql_table_machine.specs.Fed.{changes_at}
-use Rattle.reql_table_machine.proofs.Reach as of_tables
-use Rattle.reql_feed_law.specs.Feeds.{changed_by}
-use Rattle.reql_feed_law.specs.Value as one
-use Rattle.reql_law.specs.Laws.{changes, docs_at}
-use Rattle.reql_law.specs.Machine.{State, machine, after, entry_of, known_cmd, known_entry}
-use Rattle.reql_law.specs.Table.{feeding, at_key}
-use Rattle.reql_law.specs.declared.command.Entry.{Entry}
-use Rattle.reql_law.proofs.Replays.{replay_is, stamp_counts, later_docs}
+use Rattle.reql_table_machine_spec.specs.Feeding.{changed}
+use Rattle.reql_table_machine_spec.specs.Fed.{changes_at}
+use Rattle.reql_table_machine_spec.proofs.Reach as of_tables
+use Rattle.reql_feed_spec.specs.Feeds.{changed_by}
+use Rattle.reql_feed_spec.specs.Value as one
+use Rattle.reql_table_spec.specs.Laws.{changes, docs_at}
+use Rattle.reql_table_spec.specs.Machine.{State, machine, after, entry_of, known_cmd, known_entry}
+use Rattle.reql_table_spec.specs.Table.{feeding, at_key}
+use Rattle.reql_table_spec.specs.declared.command.Entry.{Entry}
+use Rattle.reql_table_spec.proofs.Replays.{replay_is, stamp_counts, later_docs}
 use Rattle.reql_tally.specs.Views.{made, made_by, docs_after, LeadsOn}
 
 -- ---- changes

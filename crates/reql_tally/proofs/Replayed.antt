@@ -1,10 +1,10 @@
 -- A table to which an entry was given.
 use Rattle.std.proofs.Common.{◌≡◌, ℕ, true, false, refl, sym, ap, ◌∙◌}
-use Rattle.reql_table_machine.proofs.Tracking.{split}
-use Rattle.reql_law.specs.Machine.{State, after, reply, is_recorded}
-use Rattle.reql_law.specs.Replies.{Answered}
-use Rattle.reql_law.specs.declared.command.Order.{Order}
-use Rattle.reql_law.proofs.Replays.{refused_stays}
+use Rattle.reql_table_machine_spec.proofs.Tracking.{split}
+use Rattle.reql_table_spec.specs.Machine.{State, after, reply, is_recorded}
+use Rattle.reql_table_spec.specs.Replies.{Answered}
+use Rattle.reql_table_spec.specs.declared.command.Order.{Order}
+use Rattle.reql_table_spec.proofs.Replays.{refused_stays}
 
 -- recorded or not, it is what the machine says
 pub moves : (s now : State) (by : ℕ) (given order : Order) (r : Answered) → given ≡ order → r ≡ reply s by given → (is_recorded r ≡ true → now ≡ after s by given) → (is_recorded r ≡ false → now ≡ s) → now ≡ after s by order

@@ -6,20 +6,20 @@ use Rattle.reql_datum.specs.Plain.{Plain}
 use Rattle.reql_datum.specs.View.{plain}
 use Rattle.reql_datum.specs.declared.datum.Datum.{Datum}
 use Rattle.reql_term.specs.Views.{Document}
-use Rattle.reql_write_law.specs.declared.command.Summary.{Summary}
-use Rattle.reql_table_machine.specs.declared.command.Said.{Said}
-use Rattle.reql_table_machine.specs.declared.command.Said.TheVariants as said
-use Rattle.reql_table_machine.specs.Feeds.{adds, opens, is_past, one_more, effect}
-use Rattle.reql_feed_law.specs.Feeds.{bare, changed_by}
-use Rattle.reql_law.specs.Engines.{kept_of}
-use Rattle.reql_law.specs.Machine.{State, after, reply, unused, known_cmd}
-use Rattle.reql_law.specs.Table.{Held, DocumentTable, held, feeding}
-use Rattle.reql_law.specs.declared.command.Cmd.{Cmd}
-use Rattle.reql_law.specs.declared.command.Cmd.TheVariants as cmds
-use Rattle.reql_law.specs.declared.command.Entry.{Entry}
-use Rattle.reql_law.specs.declared.command.FeedSpec.{FeedSpec}
-use Rattle.reql_law.specs.declared.command.Order.{Order}
-use Rattle.reql_law.specs.declared.engine.Kept.{Kept}
+use Rattle.reql_write_spec.specs.declared.command.Summary.{Summary}
+use Rattle.reql_table_machine_spec.specs.declared.command.Said.{Said}
+use Rattle.reql_table_machine_spec.specs.declared.command.Said.TheVariants as said
+use Rattle.reql_table_machine_spec.specs.Feeds.{adds, opens, is_past, one_more, effect}
+use Rattle.reql_feed_spec.specs.Feeds.{bare, changed_by}
+use Rattle.reql_table_spec.specs.Engines.{kept_of}
+use Rattle.reql_table_spec.specs.Machine.{State, after, reply, unused, known_cmd}
+use Rattle.reql_table_spec.specs.Table.{Held, DocumentTable, held, feeding}
+use Rattle.reql_table_spec.specs.declared.command.Cmd.{Cmd}
+use Rattle.reql_table_spec.specs.declared.command.Cmd.TheVariants as cmds
+use Rattle.reql_table_spec.specs.declared.command.Entry.{Entry}
+use Rattle.reql_table_spec.specs.declared.command.FeedSpec.{FeedSpec}
+use Rattle.reql_table_spec.specs.declared.command.Order.{Order}
+use Rattle.reql_table_spec.specs.declared.engine.Kept.{Kept}
 use Rattle.reql_load.specs.Folded.{folded}
 use Rattle.reql_tally.specs.Past.{Sent, feeds_opened, batches_taken, number_of, opened_as, opened_by, sent_by, sent_to, skips, latest}
 use Rattle.reql_tally.specs.Tallied.{Counts, FoldsUp, IsCount, value_of, stands, Ends}

@@ -4,15 +4,15 @@ use Rattle.reql_datum.specs.Plain.{Plain, null}
 use Rattle.reql_rules.specs.Types.{is_null}
 use Rattle.reql_bag.specs.Bag.{in_order}
 use Rattle.reql_term.specs.Views.{Document, documents_in}
-use Rattle.reql_table_machine.proofs.Tracking.{split}
-use Rattle.reql_feed_law.specs.Feeds.{Watch, one_key, all_given, first_of, nothing, kind_of, opened_from, opening_items, value_at, empty_of}
-use Rattle.reql_feed_law.specs.Fold.{without_nulls}
-use Rattle.reql_feed_law.specs.Items.{present}
-use Rattle.reql_feed_law.specs.Shown.{Shows, opening, member_at}
-use Rattle.reql_feed_law.specs.Value.{Selection, point_value, range_value, limit_value}
-use Rattle.reql_feed_law.specs.declared.kind.FeedKind.{FeedKind}
-use Rattle.reql_feed_law.specs.declared.kind.FeedKind.TheVariants as kinds
-use Rattle.reql_law.specs.Table.{Held, feed_of, feeding}
+use Rattle.reql_table_machine_spec.proofs.Tracking.{split}
+use Rattle.reql_feed_spec.specs.Feeds.{Watch, one_key, all_given, first_of, nothing, kind_of, opened_from, opening_items, value_at, empty_of}
+use Rattle.reql_feed_spec.specs.Fold.{without_nulls}
+use Rattle.reql_feed_spec.specs.Items.{present}
+use Rattle.reql_feed_spec.specs.Shown.{Shows, opening, member_at}
+use Rattle.reql_feed_spec.specs.Value.{Selection, point_value, range_value, limit_value}
+use Rattle.reql_feed_spec.specs.declared.kind.FeedKind.{FeedKind}
+use Rattle.reql_feed_spec.specs.declared.kind.FeedKind.TheVariants as kinds
+use Rattle.reql_table_spec.specs.Table.{Held, feed_of, feeding}
 use Rattle.reql_tally.specs.Tallied.{value_of}
 use Rattle.reql_tally.specs.Views.{as_kept, listed, told}
 

@@ -2,16 +2,16 @@
 use Rattle.std.specs.Prelude.{ℕ, nat_eq, nat_lt, List, [], ◌∷◌, ◌++◌, flat_map, Bool, not, ◌&&◌, cond, Option, Some, None}
 use Rattle.std.specs.List.{list_any}
 use Rattle.reql_datum.specs.Plain.{Plain}
-use Rattle.reql_table_machine.specs.declared.command.Said.{Said}
-use Rattle.reql_table_machine.specs.declared.command.Said.TheVariants as said
-use Rattle.reql_write_law.specs.declared.command.Summary.{Summary}
-use Rattle.reql_law.specs.Indexes.{Indexes}
-use Rattle.reql_law.specs.Machine.{State, after, reply}
-use Rattle.reql_law.specs.Table.{Held, held}
-use Rattle.reql_law.specs.declared.command.Cmd.{Cmd}
-use Rattle.reql_law.specs.declared.command.Cmd.TheVariants as cmds
-use Rattle.reql_law.specs.declared.command.Entry.{Entry}
-use Rattle.reql_law.specs.declared.command.FeedSpec.{FeedSpec}
+use Rattle.reql_table_machine_spec.specs.declared.command.Said.{Said}
+use Rattle.reql_table_machine_spec.specs.declared.command.Said.TheVariants as said
+use Rattle.reql_write_spec.specs.declared.command.Summary.{Summary}
+use Rattle.reql_table_spec.specs.Indexes.{Indexes}
+use Rattle.reql_table_spec.specs.Machine.{State, after, reply}
+use Rattle.reql_table_spec.specs.Table.{Held, held}
+use Rattle.reql_table_spec.specs.declared.command.Cmd.{Cmd}
+use Rattle.reql_table_spec.specs.declared.command.Cmd.TheVariants as cmds
+use Rattle.reql_table_spec.specs.declared.command.Entry.{Entry}
+use Rattle.reql_table_spec.specs.declared.command.FeedSpec.{FeedSpec}
 
 -- a feed that was opened: who opened it, its number, what it keeps of its request, and the stamp of the table there
 pub record OpenedFeed : Type 0 where

@@ -3,12 +3,12 @@ use Rattle.std.specs.Prelude.{◌≡◌, ℕ, suc, nat_eq, ◌⊎◌, List, [], 
 use Rattle.reql_datum.specs.Plain.{Plain}
 use Rattle.reql_term.specs.Views.{Document}
 use Rattle.reql_shared.specs.Machine.{replay}
-use Rattle.reql_feed_law.specs.Feeds.{value, bare}
-use Rattle.reql_feed_law.specs.Fold.{without_nulls}
-use Rattle.reql_law.specs.Laws.{docs_at}
-use Rattle.reql_law.specs.Machine.{State, machine, unused, entry_of}
-use Rattle.reql_law.specs.Table.{Held, feed_of}
-use Rattle.reql_law.specs.declared.command.Entry.{Entry}
+use Rattle.reql_feed_spec.specs.Feeds.{value, bare}
+use Rattle.reql_feed_spec.specs.Fold.{without_nulls}
+use Rattle.reql_table_spec.specs.Laws.{docs_at}
+use Rattle.reql_table_spec.specs.Machine.{State, machine, unused, entry_of}
+use Rattle.reql_table_spec.specs.Table.{Held, feed_of}
+use Rattle.reql_table_spec.specs.declared.command.Entry.{Entry}
 use Rattle.reql_load.specs.Folded.{folded}
 use Rattle.reql_table.specs.Seen.{Standing, documents_of, indexes_of}
 use Rattle.reql_tail.specs.Kept.{Kept, standing}

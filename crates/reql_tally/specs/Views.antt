@@ -6,15 +6,15 @@ use Rattle.reql_datum.specs.declared.datum.Datum.{Datum}
 use Rattle.reql_bag.specs.Bag.{in_order}
 use Rattle.reql_term.specs.Views.{Document}
 use Rattle.reql_shared.specs.Machine.{replay}
-use Rattle.reql_table_machine.specs.Fed.{changes_at}
-use Rattle.reql_feed_law.specs.Feeds.{bare, changed_by}
-use Rattle.reql_feed_law.specs.Shown.{member_at}
-use Rattle.reql_feed_law.specs.declared.kind.FeedKind.{FeedKind}
-use Rattle.reql_law.specs.Laws.{changes}
-use Rattle.reql_law.specs.Machine.{State, machine, entry_of, known_cmd}
-use Rattle.reql_law.specs.Table.{Held, feeding, at_key, is_limit}
-use Rattle.reql_law.specs.declared.command.Cmd.{Cmd}
-use Rattle.reql_law.specs.declared.command.Entry.{Entry}
+use Rattle.reql_table_machine_spec.specs.Fed.{changes_at}
+use Rattle.reql_feed_spec.specs.Feeds.{bare, changed_by}
+use Rattle.reql_feed_spec.specs.Shown.{member_at}
+use Rattle.reql_feed_spec.specs.declared.kind.FeedKind.{FeedKind}
+use Rattle.reql_table_spec.specs.Laws.{changes}
+use Rattle.reql_table_spec.specs.Machine.{State, machine, entry_of, known_cmd}
+use Rattle.reql_table_spec.specs.Table.{Held, feeding, at_key, is_limit}
+use Rattle.reql_table_spec.specs.declared.command.Cmd.{Cmd}
+use Rattle.reql_table_spec.specs.declared.command.Entry.{Entry}
 use Rattle.reql_load.specs.Folded.{folded}
 use Rattle.reql_tally.specs.Past.{OpenedFeed, Sent, sent_to, skips, latest}
 use Rattle.reql_tally.specs.Tallied.{value_of, IsCount}

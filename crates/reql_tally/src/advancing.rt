@@ -1,16 +1,16 @@
 // A table after changes.
 ghost use Rattle.std.specs.Prelude.{◌≡◌, [], ◌∷◌, ◌+◌, map, drop, option_map, MatchOption, IfOk};
 ghost use Rattle.reql_datum.specs.View.{plain};
-ghost use Rattle.reql_feed_law.specs.Feeds.{changed_by};
-ghost use Rattle.reql_law.specs.Engines.{kept_of};
+ghost use Rattle.reql_feed_spec.specs.Feeds.{changed_by};
+ghost use Rattle.reql_table_spec.specs.Engines.{kept_of};
 ghost use Rattle.reql_table.specs.Edits.{told};
 ghost use Rattle.reql_table.specs.Seen.{documents_of, indexes_of};
 ghost use Rattle.reql_tally.specs.Views.{docs_after};
 
 use reql_datum::Datum;
-use reql_law::Kept;
 use reql_memory::Memory;
 use reql_table::{Change, Table};
+use reql_table_spec::Kept;
 
 fn copy_of(value: &Option<Datum>) -> Result<Option<Datum>, Memory>
     ensures { IfOk result (λ copy. option_map plain copy ≡ option_map plain value.now) }

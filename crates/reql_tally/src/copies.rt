@@ -2,8 +2,8 @@
 ghost use Rattle.std.specs.Prelude.{◌≡◌, IfOk};
 
 use reql_datum::{Name, Point};
-use reql_law::{Act, Cmd, FeedSpec, Order, WriteCmd};
 use reql_memory::{Memory, Seq};
+use reql_table_spec::{Act, Cmd, FeedSpec, Order, WriteCmd};
 use std::alloc::Global;
 
 fn name_copy(name: &Option<Name>) -> Result<Option<Name>, Memory>

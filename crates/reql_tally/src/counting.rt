@@ -1,9 +1,9 @@
 // The feeds of a history, counted.
 ghost use Rattle.std.specs.Prelude.{◌≡◌, ◌≤◌, ◌<◌, ◌+◌, ◌^◌, ◌++◌, map, length, None, IfOk};
-ghost use Rattle.reql_law.specs.Engines.{kept_of};
-ghost use Rattle.reql_law.specs.Machine.{after, reply, unused};
-ghost use Rattle.reql_law.specs.declared.command.Cmd.TheVariants.{Subscribe};
-ghost use Rattle.reql_law.specs.Replies.{said_of};
+ghost use Rattle.reql_table_spec.specs.Engines.{kept_of};
+ghost use Rattle.reql_table_spec.specs.Machine.{after, reply, unused};
+ghost use Rattle.reql_table_spec.specs.declared.command.Cmd.TheVariants.{Subscribe};
+ghost use Rattle.reql_table_spec.specs.Replies.{said_of};
 ghost use Rattle.reql_tally.specs.Past.{batches_taken, feeds_opened, number_of, opened_by};
 ghost use Rattle.reql_tally.specs.Tallied.{FoldsUp, IsCount};
 ghost use Rattle.reql_tally.specs.Views.{IsTold, given, made, one_fed, one_folds};
@@ -14,8 +14,8 @@ use crate::hearing::Heard;
 use crate::replica::{Replica, SeenTable};
 use crate::sent::Whose;
 use reql_core::Opening;
-use reql_law::{Cmd, Entry, FeedSpec, Limits, Said};
 use reql_memory::Memory;
+use reql_table_spec::{Cmd, Entry, FeedSpec, Limits, Said};
 use std::alloc::Global;
 
 /// How many feeds were opened, and how many of them fold.

@@ -1,7 +1,7 @@
 // The entries of a history, which stand in two parts.
 ghost use Rattle.std.specs.Prelude.{◌≡◌, [], ◌∷◌, ◌++◌, ◌+◌, ◌<◌, ◌^◌, drop, MatchOption, OnSome};
 
-use reql_law::Entry;
+use reql_table_spec::Entry;
 
 fn at(part: &[Entry], place: usize) -> Option<&Entry>
     ensures rest { MatchOption result (drop place part.now ≡ [])

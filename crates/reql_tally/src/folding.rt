@@ -1,7 +1,7 @@
 // Whether what was sent to a feed folds.
 ghost use Rattle.std.specs.Prelude.{◌↔◌, map, IfOk, IsTrue};
-ghost use Rattle.reql_law.specs.Engines.{kept_of};
-ghost use Rattle.reql_law.specs.Table.{held};
+ghost use Rattle.reql_table_spec.specs.Engines.{kept_of};
+ghost use Rattle.reql_table_spec.specs.Table.{held};
 ghost use Rattle.reql_table.specs.Seen.{documents_of, indexes_of};
 ghost use Rattle.reql_tally.specs.Views.{FoldsOver, given};
 
@@ -10,10 +10,10 @@ use crate::hearing::Heard;
 use crate::sent::{Whose, latest, sent_to, skips};
 use crate::values::value_on;
 use reql_core::Opening;
-use reql_law::FeedSpec;
 use reql_load::fold_check;
 use reql_memory::Memory;
 use reql_table::Table;
+use reql_table_spec::FeedSpec;
 use std::alloc::Global;
 
 /// Whether the items of a feed that was opened on the table, after so many changes, fold over its

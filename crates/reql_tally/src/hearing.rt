@@ -1,8 +1,8 @@
 // What a history answers.
 ghost use Rattle.std.specs.Prelude.{◌≡◌, ◌≤◌, [], ◌++◌, map, IfOk};
-ghost use Rattle.reql_law.specs.Engines.{kept_of};
-ghost use Rattle.reql_law.specs.Machine.{reply, unused};
-ghost use Rattle.reql_law.specs.Replies.{said_of};
+ghost use Rattle.reql_table_spec.specs.Engines.{kept_of};
+ghost use Rattle.reql_table_spec.specs.Machine.{reply, unused};
+ghost use Rattle.reql_table_spec.specs.Replies.{said_of};
 ghost use Rattle.reql_tally.specs.Past.{batches_taken, sent_by, taken_as};
 ghost use Rattle.reql_tally.specs.Views.{given, listed, made, made_by, stamped};
 
@@ -10,8 +10,8 @@ use crate::entries::entry_at;
 use crate::replica::{Ran, Replica};
 use reql_core::Opening;
 use reql_datum::Datum;
-use reql_law::{Cmd, Entry, Kept, Limits, Said};
 use reql_memory::{Memory, Seq};
+use reql_table_spec::{Cmd, Entry, Kept, Limits, Said};
 use std::alloc::Global;
 
 /// Items that the owner of a feed took, and whether they tell that others were dropped.

@@ -1,20 +1,20 @@
 // A table that a history is given again.
 ghost use Rattle.std.specs.Prelude.{◌≡◌, ◌≤◌, map, IfOk};
-ghost use Rattle.reql_table_machine.specs.Fed.{changes_at};
+ghost use Rattle.reql_table_machine_spec.specs.Fed.{changes_at};
 ghost use Rattle.reql_table.specs.Seen.{documents_of, indexes_of};
-ghost use Rattle.reql_law.specs.Engines.{kept_of, seen_in};
-ghost use Rattle.reql_law.specs.Machine.{State, after, reply, seen, unused, known_cmd};
-ghost use Rattle.reql_law.specs.Replies.{said_of};
-ghost use Rattle.reql_law.specs.Table.{feeding, at_key};
+ghost use Rattle.reql_table_spec.specs.Engines.{kept_of, seen_in};
+ghost use Rattle.reql_table_spec.specs.Machine.{State, after, reply, seen, unused, known_cmd};
+ghost use Rattle.reql_table_spec.specs.Replies.{said_of};
+ghost use Rattle.reql_table_spec.specs.Table.{feeding, at_key};
 ghost use Rattle.reql_core.specs.Core.{state_of};
 ghost use Rattle.reql_tally.specs.Views.{IsSeen};
 
 use crate::copies::copied;
 use reql_core::{Opening, TableCore};
-use reql_law::{Entry, Keeping, Kept, Limits, Look, Said};
 use reql_memory::Memory;
 use reql_shared::{Engine, Snap};
 use reql_table::Table;
+use reql_table_spec::{Entry, Keeping, Kept, Limits, Look, Said};
 use std::alloc::Global;
 use std::marker::Model;
 
@@ -29,7 +29,7 @@ impl<F: Opening> Model for Replica<F> {
     ghost use Rattle.std.specs.Coded.{codes};
     ghost use Rattle.reql_datum.specs.Code.{plain_code, list_code, pairs_code};
     ghost use Rattle.reql_term.specs.FormCode.{form_code};
-    ghost use Rattle.reql_law.specs.Machine.{State};
+    ghost use Rattle.reql_table_spec.specs.Machine.{State};
     ghost use Rattle.reql_core.specs.Core.{state_of};
 
     ghost Value = { State };

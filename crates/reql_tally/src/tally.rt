@@ -1,8 +1,8 @@
 // What a load left.
 ghost use Rattle.std.specs.Prelude.{◌≡◌, ◌≤◌, [], ◌++◌, map, length, IfOk};
-ghost use Rattle.reql_feed_law.specs.Feeds.{changed_by};
-ghost use Rattle.reql_law.specs.Engines.{kept_of};
-ghost use Rattle.reql_law.specs.Machine.{State, unused};
+ghost use Rattle.reql_feed_spec.specs.Feeds.{changed_by};
+ghost use Rattle.reql_table_spec.specs.Engines.{kept_of};
+ghost use Rattle.reql_table_spec.specs.Machine.{State, unused};
 ghost use Rattle.reql_core.specs.Core.{state_of};
 ghost use Rattle.reql_tally.specs.Tallied.{Counts, Ends, Tallies, begins as begins_of, is_empty as is_empty_of};
 ghost use Rattle.reql_tally.specs.Views.{IsTable};
@@ -12,9 +12,9 @@ use crate::counting::count;
 use crate::hearing::hear;
 use crate::replica::{SeenTable, looked};
 use reql_core::{Base, Opening, TableCore};
-use reql_law::{Entry, Kept, Limits};
 use reql_memory::Memory;
 use reql_table::Table;
+use reql_table_spec::{Entry, Kept, Limits};
 use reql_term::TableView;
 use std::alloc::Global;
 

@@ -1,10 +1,10 @@
 // The value of a feed.
 ghost use Rattle.std.specs.Prelude.{◌≡◌, ◌++◌, codes, option_map, IfOk};
 ghost use Rattle.reql_datum.specs.View.{plain};
-ghost use Rattle.reql_feed_law.specs.Fold.{without_nulls};
-ghost use Rattle.reql_feed_law.specs.Items.{present};
-ghost use Rattle.reql_feed_law.specs.Shown.{member_at};
-ghost use Rattle.reql_law.specs.Table.{held, is_limit};
+ghost use Rattle.reql_feed_spec.specs.Fold.{without_nulls};
+ghost use Rattle.reql_feed_spec.specs.Items.{present};
+ghost use Rattle.reql_feed_spec.specs.Shown.{member_at};
+ghost use Rattle.reql_table_spec.specs.Table.{held, is_limit};
 ghost use Rattle.reql_opening.specs.Opens.{IsOpened};
 ghost use Rattle.reql_table.specs.Seen.{documents_of, indexes_of};
 ghost use Rattle.reql_tally.specs.Tallied.{value_of};
@@ -13,9 +13,9 @@ ghost use Rattle.reql_tally.specs.Views.{as_kept, listed, told};
 use reql_bag::in_order;
 use reql_core::{Opened, Opening};
 use reql_datum::{Datum, Items};
-use reql_law::{FeedKind, FeedSpec};
 use reql_memory::Memory;
 use reql_table::Table;
+use reql_table_spec::{FeedKind, FeedSpec};
 use std::alloc::Global;
 
 // What an opening item tells.

@@ -8,7 +8,7 @@ use Rattle.reql_scram.specs.declared.fault.LoginFault.TheVariants as fault
 use Rattle.reql_login.specs.Messages.{Message, Whole, Oversize, message_of}
 use Rattle.reql_login.specs.Fields.{first_text}
 use Rattle.reql_login.specs.Turns.{Greeted, Salted, Rolled, Unrolled, Asked, Turn, Waits, Rolls, Says, Admits, Refuses, admits, asked_by, first_turn, last_answer, last_turn, turn_of}
-use Rattle.reql_talk.specs.World.{AtWork}
+use Rattle.reql_session_api.specs.World.{AtWork}
 use Rattle.reql_turns.specs.Rolling.{Rolls as RollsOne}
 use Rattle.reql_turns.specs.Logins.{now, rolls, ComesBy, Wants, IsRefused}
 

@@ -10,16 +10,16 @@ use Rattle.reql_login.specs.Turns as gates
 use Rattle.reql_wire.specs.Feeding.{Holding}
 use Rattle.reql_wire.specs.Greeting.{Listening, refusal}
 use Rattle.reql_wire.specs.declared.greeter.GreetFault.TheVariants as greet_fault
-use Rattle.reql_story.specs.Books.{no_books}
-use Rattle.reql_story.specs.Logins.{Stage, At, Admitted, InLogin, account}
-use Rattle.reql_story.specs.Tasks.{Talk}
-use Rattle.reql_story.specs.Session.{Mach, Rest, Visits, leaves, lets_on, lets_in, turns_away}
-use Rattle.reql_story.specs.declared.end.End.{End}
-use Rattle.reql_story.specs.declared.end.End.TheVariants as ends
-use Rattle.reql_story.proofs.Going.{goes_said}
-use Rattle.reql_story.proofs.Steps.{goes_cast, does_lets_on, does_lets_in, ends_denied, ends_unlet_on, ends_unlet_in, ends_undenied, ends_poor}
-use Rattle.reql_talk.specs.World.{AtWork, Runs, EndsHere, place_at, mach_at, world_at}
-use Rattle.reql_talk.proofs.Running.{gave_nothing, gave_one, runs_none, runs_on, ends_here_on, runs_quiet, ends_quiet}
+use Rattle.reql_session_spec.specs.Books.{no_books}
+use Rattle.reql_session_spec.specs.Logins.{Stage, At, Admitted, InLogin, account}
+use Rattle.reql_session_spec.specs.Tasks.{Talk}
+use Rattle.reql_session_spec.specs.Session.{Mach, Rest, Visits, leaves, lets_on, lets_in, turns_away}
+use Rattle.reql_session_spec.specs.declared.end.End.{End}
+use Rattle.reql_session_spec.specs.declared.end.End.TheVariants as ends
+use Rattle.reql_session_spec.proofs.Going.{goes_said}
+use Rattle.reql_session_spec.proofs.Steps.{goes_cast, does_lets_on, does_lets_in, ends_denied, ends_unlet_on, ends_unlet_in, ends_undenied, ends_poor}
+use Rattle.reql_session_api.specs.World.{AtWork, Runs, EndsHere, place_at, mach_at, world_at}
+use Rattle.reql_session_api.proofs.Running.{gave_nothing, gave_one, runs_none, runs_on, ends_here_on, runs_quiet, ends_quiet}
 use Rattle.reql_turns.specs.Rolling.{Rolls, RollsAll}
 use Rattle.reql_turns.specs.Logins.{Comes, now, rolls, ComesBy, IsRefused, TurnsAway}
 use Rattle.reql_turns.specs.Ears.{ReceivesMore, Stands, Turned, Hears, Exchanges, TurnFrom, gate_of}

@@ -8,21 +8,21 @@ use Rattle.reql_wire.specs.Greeting.{Greets, Listening, verdict_of}
 use Rattle.reql_wire.specs.declared.frame.Frame.{Frame}
 use Rattle.reql_wire.specs.declared.greeter.Greeting.TheVariants as greeting
 use Rattle.reql_hearing.specs.Hearing.{Came}
-use Rattle.reql_story.specs.Books.{Books, no_books, all_arms}
-use Rattle.reql_story.specs.Tasks.{Talk}
-use Rattle.reql_story.specs.Logins.{Stage, Waiting, At, Admitted}
-use Rattle.reql_story.specs.Session.{Mach, Rest, Visits, Leaving, Unread, leaves}
-use Rattle.reql_story.specs.Worlds.{Does}
-use Rattle.reql_story.specs.declared.end.End.{End}
-use Rattle.reql_story.specs.declared.end.End.TheVariants as ends
-use Rattle.reql_story.proofs.Going.{ends_closing, explained_by}
-use Rattle.reql_story.proofs.Steps.{goes_turn, goes_heard, goes_idle, ends_broken, ends_lost, ends_long, ends_poor, ends_worn}
-use Rattle.reql_talk.specs.World.{AtWork, World, Runs, Ends, EndsHere, Outcome, Serves, IsServed, Gave, place_at, mach_at, world_at, world_of}
+use Rattle.reql_session_spec.specs.Books.{Books, no_books, all_arms}
+use Rattle.reql_session_spec.specs.Tasks.{Talk}
+use Rattle.reql_session_spec.specs.Logins.{Stage, Waiting, At, Admitted}
+use Rattle.reql_session_spec.specs.Session.{Mach, Rest, Visits, Leaving, Unread, leaves}
+use Rattle.reql_session_spec.specs.Worlds.{Does}
+use Rattle.reql_session_spec.specs.declared.end.End.{End}
+use Rattle.reql_session_spec.specs.declared.end.End.TheVariants as ends
+use Rattle.reql_session_spec.proofs.Going.{ends_closing, explained_by}
+use Rattle.reql_session_spec.proofs.Steps.{goes_turn, goes_heard, goes_idle, ends_broken, ends_lost, ends_long, ends_poor, ends_worn}
+use Rattle.reql_session_api.specs.World.{AtWork, World, Runs, Ends, EndsHere, Outcome, Serves, IsServed, Gave, place_at, mach_at, world_at, world_of}
 use Rattle.reql_turns.specs.Ears.{IsEnd, ReceivesMore, Stands, Hearing, TurnsOver, Turned, Hears, TurnFrom, IsHearing, IsFirst, IsEarly, gate_of}
 use Rattle.reql_turns.specs.declared.ears.Ears.{Ears}
 use Rattle.reql_turns.specs.declared.ears.Phase.{Phase}
 use Rattle.reql_turns.specs.declared.ears.Phase.TheVariants as phases
-use Rattle.reql_talk.proofs.Running.{gave_nothing, runs_none, runs_on, ends_on, ends_here_on, runs_quiet, ends_quiet}
+use Rattle.reql_session_api.proofs.Running.{gave_nothing, runs_none, runs_on, ends_on, ends_here_on, runs_quiet, ends_quiet}
 use Rattle.reql_turns.proofs.Greeted.{standing, over_here}
 
 pub whole_room : (room : ℕ) → room ≡ 65536 → room ≤ 65536

@@ -9,21 +9,21 @@ use Rattle.reql_wire.specs.declared.greeter.GreetFault.{GreetFault}
 use Rattle.reql_hearing.specs.Hearing.{Came}
 use Rattle.reql_hearing.specs.Hearing as hearing
 use Rattle.reql_hearing.specs.declared.greeting.Heard.TheVariants as heard
-use Rattle.reql_story.specs.Books.{no_books, all_arms}
-use Rattle.reql_story.specs.Tasks.{Talk}
-use Rattle.reql_story.specs.Logins.{Stage, Waiting, Admitted}
-use Rattle.reql_story.specs.Session.{Mach, Rest, Visits, Unread, IsPiece, end_of, leaves, greets_back, turns_away}
-use Rattle.reql_story.specs.Worlds.{Ended}
-use Rattle.reql_story.specs.declared.end.End.{End}
-use Rattle.reql_story.specs.declared.end.End.TheVariants as ends
-use Rattle.reql_story.proofs.Going.{goes_said}
-use Rattle.reql_story.proofs.Steps.{goes_heard, goes_idle, ends_closed, ends_cut, ends_broken, ends_lost, does_greeted, ends_refused, ends_ungreeted, ends_unrefused}
-use Rattle.reql_talk.specs.World.{AtWork, place_at, mach_at, world_at, world_of, Runs, EndsHere}
+use Rattle.reql_session_spec.specs.Books.{no_books, all_arms}
+use Rattle.reql_session_spec.specs.Tasks.{Talk}
+use Rattle.reql_session_spec.specs.Logins.{Stage, Waiting, Admitted}
+use Rattle.reql_session_spec.specs.Session.{Mach, Rest, Visits, Unread, IsPiece, end_of, leaves, greets_back, turns_away}
+use Rattle.reql_session_spec.specs.Worlds.{Ended}
+use Rattle.reql_session_spec.specs.declared.end.End.{End}
+use Rattle.reql_session_spec.specs.declared.end.End.TheVariants as ends
+use Rattle.reql_session_spec.proofs.Going.{goes_said}
+use Rattle.reql_session_spec.proofs.Steps.{goes_heard, goes_idle, ends_closed, ends_cut, ends_broken, ends_lost, does_greeted, ends_refused, ends_ungreeted, ends_unrefused}
+use Rattle.reql_session_api.specs.World.{AtWork, place_at, mach_at, world_at, world_of, Runs, EndsHere}
 use Rattle.reql_turns.specs.Ears.{IsEnd, Stands, Hearing, Hears}
 use Rattle.reql_turns.specs.declared.ears.Ears.{Ears}
 use Rattle.reql_turns.specs.declared.ears.Phase.{Phase}
 use Rattle.reql_turns.specs.declared.ears.Phase.TheVariants as phases
-use Rattle.reql_talk.proofs.Running.{IsEarly, runs_quiet, ends_quiet}
+use Rattle.reql_session_api.proofs.Running.{IsEarly, runs_quiet, ends_quiet}
 
 pub said_so : (t u : Tape) (piece said : List ℕ) (result whole : Bool) → piece ≡ said → result ≡ whole → SendsAll t u piece result → SendsAll t u said whole
 said_so t u piece said result whole p w s = subst (λ (z : List ℕ × Bool). SendsAll t u z.0 z.1) (λ i. (p i, w i)) s

@@ -6,13 +6,13 @@ use Rattle.reql_wire.specs.Greeting.{Greets}
 use Rattle.reql_wire.specs.declared.greeter.Greeting.TheVariants as greeting
 use Rattle.reql_scram.specs.Scram.{Challenge}
 use Rattle.reql_login.specs.Turns.{Gate, Asked, Greeted}
-use Rattle.reql_story.specs.Books.{no_books}
-use Rattle.reql_story.specs.Logins.{Stage, Waiting, At, Admitted}
-use Rattle.reql_story.specs.Tasks.{Talk}
-use Rattle.reql_story.specs.Session.{Rest, Visits}
-use Rattle.reql_story.specs.declared.end.End.{End}
-use Rattle.reql_story.specs.declared.end.End.TheVariants as ends
-use Rattle.reql_talk.specs.World.{AtWork, World, world_at, Runs, EndsHere}
+use Rattle.reql_session_spec.specs.Books.{no_books}
+use Rattle.reql_session_spec.specs.Logins.{Stage, Waiting, At, Admitted}
+use Rattle.reql_session_spec.specs.Tasks.{Talk}
+use Rattle.reql_session_spec.specs.Session.{Rest, Visits}
+use Rattle.reql_session_spec.specs.declared.end.End.{End}
+use Rattle.reql_session_spec.specs.declared.end.End.TheVariants as ends
+use Rattle.reql_session_api.specs.World.{AtWork, World, world_at, Runs, EndsHere}
 use Rattle.reql_turns.specs.declared.ears.Ears.{Ears}
 use Rattle.reql_turns.specs.declared.ears.Phase.{Phase}
 use Rattle.reql_turns.specs.declared.ears.Phase.TheVariants as phases

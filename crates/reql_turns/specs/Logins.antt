@@ -8,9 +8,9 @@ use Rattle.reql_scram.specs.declared.fault.LoginFault.{LoginFault}
 use Rattle.reql_scram.specs.declared.fault.LoginFault.TheVariants as fault
 use Rattle.reql_login.specs.Turns.{Gate, Greeted, Asked, Turn, Waits, Rolls, Says, Admits, Refuses, after_roll, turn_of}
 use Rattle.reql_wire.specs.declared.greeter.GreetFault.TheVariants as greet_fault
-use Rattle.reql_story.specs.declared.end.End.{End}
-use Rattle.reql_story.specs.declared.end.End.TheVariants as ends
-use Rattle.reql_talk.specs.World.{AtWork}
+use Rattle.reql_session_spec.specs.declared.end.End.{End}
+use Rattle.reql_session_spec.specs.declared.end.End.TheVariants as ends
+use Rattle.reql_session_api.specs.World.{AtWork}
 use Rattle.reql_turns.specs.Rolling.{RollsAll}
 use Rattle.reql_turns.specs.declared.login.First.{First}
 use Rattle.reql_turns.specs.declared.login.First.TheVariants as first

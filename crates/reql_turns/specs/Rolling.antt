@@ -1,7 +1,7 @@
 -- Rolls of the dice by what handles a session's frames.
 use Rattle.std.specs.Prelude.{◌≡◌, ℕ, List, [], ◌∷◌, Option}
 use Rattle.reql_outside.specs.Source.{Gives}
-use Rattle.reql_talk.specs.World.{AtWork}
+use Rattle.reql_session_api.specs.World.{AtWork}
 
 -- one call of the dice, by which nothing else changes
 abbrev pub Rolls : AtWork → AtWork → Option (List ℕ) → Type 0

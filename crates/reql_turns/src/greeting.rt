@@ -1,7 +1,7 @@
 // The turns of the greeting, each after its visits.
 ghost use Rattle.std.specs.Prelude.{◌≡◌, [], length};
 ghost use Rattle.reql_wire.specs.Greeting.{Greets};
-ghost use Rattle.reql_story.specs.Tasks.{Talk};
+ghost use Rattle.reql_session_spec.specs.Tasks.{Talk};
 ghost use Rattle.reql_turns.specs.Ears.{Hears};
 ghost use Rattle.reql_turns.specs.declared.ears.Phase.TheVariants as phases;
 
@@ -10,7 +10,7 @@ use crate::handler::Handler;
 use crate::receiving::end_of;
 use reql_hearing::{Heard, hear};
 use reql_outside::{Link, send_all};
-use reql_story::End;
+use reql_session_spec::End;
 use reql_wire::{GreetFault, Greeting, accepted_answer};
 
 /// Receives once, where the greeting isn't whole yet.

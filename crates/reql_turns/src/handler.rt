@@ -3,19 +3,19 @@ ghost use Rattle.std.specs.Prelude.{◌≡◌, ◌++◌, ℕ, List, []};
 ghost use Rattle.reql_wire.specs.Frames.{Fits, spelling};
 ghost use Rattle.reql_hall.specs.Rooms.{Rooms};
 ghost use Rattle.reql_catalog.specs.declared.catalog.Catalog.{Catalog};
-ghost use Rattle.reql_law.specs.Machine.{State};
-ghost use Rattle.reql_story.specs.Books.{all_arms};
-ghost use Rattle.reql_story.specs.Logins.{Admitted, Stage};
-ghost use Rattle.reql_story.specs.Session.{Mach, Leaving, Rest, Visits};
-ghost use Rattle.reql_story.specs.Tasks.{Talk};
-ghost use Rattle.reql_story.specs.Worlds.{Does};
-ghost use Rattle.reql_story.specs.declared.end.End.{End as AnEnd};
-ghost use Rattle.reql_talk.specs.World.{AtWork, place_at, world_at, Outcome};
+ghost use Rattle.reql_table_spec.specs.Machine.{State};
+ghost use Rattle.reql_session_spec.specs.Books.{all_arms};
+ghost use Rattle.reql_session_spec.specs.Logins.{Admitted, Stage};
+ghost use Rattle.reql_session_spec.specs.Session.{Mach, Leaving, Rest, Visits};
+ghost use Rattle.reql_session_spec.specs.Tasks.{Talk};
+ghost use Rattle.reql_session_spec.specs.Worlds.{Does};
+ghost use Rattle.reql_session_spec.specs.declared.end.End.{End as AnEnd};
+ghost use Rattle.reql_session_api.specs.World.{AtWork, place_at, world_at, Outcome};
 ghost use Rattle.reql_turns.specs.Rolling.{Rolls};
 
-use reql_law::Limits;
 use reql_outside::Link;
-use reql_story::End;
+use reql_session_spec::End;
+use reql_table_spec::Limits;
 use reql_wire::Frame;
 
 /// What answers the frames of a session over a link: it has a desk, a clock and dice, and keeps the session's books.

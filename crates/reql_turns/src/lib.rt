@@ -2,7 +2,7 @@
 //! has a frame handled, or receives, until it ends. What a frame asks for, and what a visit finds, is not known here
 //! (`Handler`).
 //!
-//! Contracts see a session as its program has it as a world (`specs/World.antt` of reql_talk), over the worlds of reql_story.
+//! Contracts see a session as its program has it as a world (`specs/World.antt` of reql_session_api), over the worlds of reql_session_spec.
 #![tactic(auto)]
 
 mod ears;

@@ -4,7 +4,7 @@ ghost use Rattle.reql_turns.specs.Ears.{IsEnd, ReceivesMore};
 
 use reql_hearing::{Received, receive};
 use reql_outside::Link;
-use reql_story::End;
+use reql_session_spec::End;
 use reql_wire::Feeder;
 
 /// Where no more comes while so many bytes are held.

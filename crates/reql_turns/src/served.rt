@@ -1,5 +1,5 @@
 // What is left of a session.
-use reql_story::End;
+use reql_session_spec::End;
 
 /// How a session ended, over the record of its link, and in how many turns.
 #[derive(Drop)]

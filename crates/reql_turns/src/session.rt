@@ -1,10 +1,10 @@
 // A whole session.
 ghost use Rattle.std.specs.Prelude.{◌≡◌, [], length, IfSome, None};
 ghost use Rattle.reql_outside.specs.Tape.{IsFresh};
-ghost use Rattle.reql_story.specs.Books.{no_books};
-ghost use Rattle.reql_story.specs.Logins.{Waiting};
-ghost use Rattle.reql_story.specs.Session.{Rest};
-ghost use Rattle.reql_talk.specs.World.{IsServed, Serves, world_at};
+ghost use Rattle.reql_session_spec.specs.Books.{no_books};
+ghost use Rattle.reql_session_spec.specs.Logins.{Waiting};
+ghost use Rattle.reql_session_spec.specs.Session.{Rest};
+ghost use Rattle.reql_session_api.specs.World.{IsServed, Serves, world_at};
 ghost use Rattle.reql_turns.specs.Ears.{IsFirst};
 
 use crate::ears::{Ears, Phase};
@@ -12,7 +12,7 @@ use crate::handler::Handler;
 use crate::served::Served;
 use crate::turn::turn;
 use reql_outside::Link;
-use reql_story::End;
+use reql_session_spec::End;
 use reql_wire::{Feeder, Greeter};
 use std::alloc::Global;
 

@@ -1,8 +1,8 @@
 // One turn of a session.
 ghost use Rattle.std.specs.Prelude.{◌≡◌, [], length};
-ghost use Rattle.reql_story.specs.Logins.{Admitted};
-ghost use Rattle.reql_story.specs.Session.{Rest, Visits};
-ghost use Rattle.reql_talk.specs.World.{Outcome, world_at};
+ghost use Rattle.reql_session_spec.specs.Logins.{Admitted};
+ghost use Rattle.reql_session_spec.specs.Session.{Rest, Visits};
+ghost use Rattle.reql_session_api.specs.World.{Outcome, world_at};
 ghost use Rattle.reql_turns.specs.Ears.{IsHearing, ReceivesMore, TurnFrom};
 
 use crate::ears::{Ears, Phase};
@@ -11,7 +11,7 @@ use crate::handler::Handler;
 use crate::login::{call, exchange};
 use crate::receiving::receive_more;
 use reql_outside::{Expected, Link};
-use reql_story::End;
+use reql_session_spec::End;
 use reql_wire::{Feeder, WireFault};
 use std::alloc::Global;
 

@@ -3,8 +3,8 @@ use Rattle.std.proofs.Common.{◌≡◌, List, [], ◌∷◌, ◌++◌, map, ref
 use Rattle.std.proofs.lemmas.List.{append_assoc, append-nil}
 use Rattle.reql_rules.specs.Lists.{joined}
 use Rattle.reql_term.specs.Views.{Document}
-use Rattle.reql_write_law.specs.Treated.{Treated, Changed, changed, changes_of, changed_by}
-use Rattle.reql_write_law.specs.Treating.{treat_all}
+use Rattle.reql_write_spec.specs.Treated.{Treated, Changed, changed, changes_of, changed_by}
+use Rattle.reql_write_spec.specs.Treating.{treat_all}
 
 changed_on : (docs : List Document) (xs ys : List Changed) → changed_by docs (xs ++ ys) ≡ changed_by (changed_by docs xs) ys
 changed_on docs [] ys = refl

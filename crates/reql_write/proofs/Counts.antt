@@ -1,8 +1,8 @@
 -- Counts add up over a list.
 use Rattle.std.proofs.Common.{◌≡◌, refl, ap, suc, ◌+◌, Bool, true, false, if◌then◌else◌, List, [], ◌∷◌, length, arith}
 use Rattle.std.specs.List.{filter}
-use Rattle.reql_write_law.specs.Treated.{Treated, inserted, replaced, deleted, unchanged, skipped, failed}
-use Rattle.reql_write_law.specs.Write.{count, errors_in}
+use Rattle.reql_write_spec.specs.Treated.{Treated, inserted, replaced, deleted, unchanged, skipped, failed}
+use Rattle.reql_write_spec.specs.Write.{count, errors_in}
 use Rattle.reql_write.specs.Counting.{is_failed}
 
 counts_by : (b : Bool) (t : Treated) (ts : List Treated) → length (if b then t ∷ ts else ts) ≡ length (if b then t ∷ [] else []) + length ts

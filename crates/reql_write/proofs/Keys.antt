@@ -6,7 +6,7 @@ use Rattle.reql_datum.specs.Kinds.{is_literal}
 use Rattle.reql_datum.proofs.Back.{pairs_back}
 use Rattle.reql_rules.specs.Lists.{Bytes, object_of}
 use Rattle.reql_rules.specs.Types.{object_in}
-use Rattle.reql_write_law.specs.Treating.{keyed_in, keyed_by}
+use Rattle.reql_write_spec.specs.Treating.{keyed_in, keyed_by}
 use Rattle.reql_memory.proofs.Sorted.{some_inside}
 
 object_by : (b : Bool) (ps : Pairs) (ms : List (Bytes × Plain)) → (if b then None else Some (members ps)) ≡ Some ms → object_of ms ≡ object ps

@@ -3,8 +3,8 @@ use Rattle.std.proofs.Common.{◌≡◌, refl, ap, ◌∙◌, Bool, true, false,
 use Rattle.std.specs.List.{filter}
 use Rattle.reql_datum.specs.Members.{put}
 use Rattle.reql_datum.specs.Plain.{Plain}
-use Rattle.reql_write_law.specs.Treated.{Treated, inserted, replaced, deleted, unchanged, skipped, failed, shown}
-use Rattle.reql_write_law.specs.Write.{is_change}
+use Rattle.reql_write_spec.specs.Treated.{Treated, inserted, replaced, deleted, unchanged, skipped, failed, shown}
+use Rattle.reql_write_spec.specs.Write.{is_change}
 use Rattle.reql_write.specs.Listing.{AreNamed, is_wanted}
 use Rattle.reql_write.specs.declared.listing.Labels.{Labels}
 

@@ -10,7 +10,7 @@ use Rattle.reql_term.specs.Views.{Document, Entry, Index, beside, seen_beside, e
 use Rattle.reql_term.specs.declared.range.Range.{Range}
 use Rattle.reql_term.specs.declared.view.Entries.{Entries}
 use Rattle.reql_rules.specs.Lists.{Bytes}
-use Rattle.reql_write_law.specs.Selecting.{is_chain, is_selection, slots, selected}
+use Rattle.reql_write_spec.specs.Selecting.{is_chain, is_selection, slots, selected}
 use Rattle.reql_write.specs.Selecting.{selected_at, SelectsIn, IsWhole}
 
 -- ---- the slot

@@ -9,11 +9,11 @@ use Rattle.reql_datum.specs.Order.{order}
 use Rattle.reql_memory.specs.Sorted.{find_by}
 use Rattle.reql_term.specs.Views.{Document}
 use Rattle.reql_rules.specs.Lists.{Bytes}
-use Rattle.reql_write_law.specs.declared.command.Conflict.{Conflict}
-use Rattle.reql_write_law.specs.Treated.{Treated, inserted, replaced, deleted, unchanged, skipped, failed, text_of}
-use Rattle.reql_write_law.specs.Treating.{or_failed, by_key, key_of, met, inserting}
-use Rattle.reql_write_law.specs.Write.{summed, summary_of, all_changes}
-use Rattle.reql_write_law.specs.declared.command.Returns.{Returns}
+use Rattle.reql_write_spec.specs.declared.command.Conflict.{Conflict}
+use Rattle.reql_write_spec.specs.Treated.{Treated, inserted, replaced, deleted, unchanged, skipped, failed, text_of}
+use Rattle.reql_write_spec.specs.Treating.{or_failed, by_key, key_of, met, inserting}
+use Rattle.reql_write_spec.specs.Write.{summed, summary_of, all_changes}
+use Rattle.reql_write_spec.specs.declared.command.Returns.{Returns}
 use Rattle.reql_write.specs.Told.{Tells, Falls}
 
 -- what is made of an answer is made of its fault

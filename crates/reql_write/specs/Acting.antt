@@ -4,11 +4,11 @@ use Rattle.reql_datum.specs.Answer.{Answer}
 use Rattle.reql_datum.specs.Plain.{Plain}
 use Rattle.reql_term.specs.Views.{Document, Index}
 use Rattle.reql_rules.specs.Lists.{Bytes}
-use Rattle.reql_write_law.specs.Selecting.{selected}
-use Rattle.reql_write_law.specs.Treated.{Treated}
-use Rattle.reql_write_law.specs.Treating.{inserting, keyed, updating, replacing, without_doc, at_key}
-use Rattle.reql_write_law.specs.declared.command.Act.{Act}
-use Rattle.reql_write_law.specs.declared.command.Act.TheVariants as act
+use Rattle.reql_write_spec.specs.Selecting.{selected}
+use Rattle.reql_write_spec.specs.Treated.{Treated}
+use Rattle.reql_write_spec.specs.Treating.{inserting, keyed, updating, replacing, without_doc, at_key}
+use Rattle.reql_write_spec.specs.declared.command.Act.{Act}
+use Rattle.reql_write_spec.specs.declared.command.Act.TheVariants as act
 
 abbrev pub treating : Bytes → Act → List Document → Plain → Treated
 treating field (act.Insert new conflict made) = inserting field conflict

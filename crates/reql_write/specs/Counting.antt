@@ -1,7 +1,7 @@
 -- What counts by itself in a summary.
 use Rattle.std.specs.Prelude.{Bool, true, false}
-use Rattle.reql_write_law.specs.Treated.{Treated, failed}
-use Rattle.reql_write_law.specs.Write.{is_inserted, is_replaced, is_deleted, is_unchanged, is_skipped}
+use Rattle.reql_write_spec.specs.Treated.{Treated, failed}
+use Rattle.reql_write_spec.specs.Write.{is_inserted, is_replaced, is_deleted, is_unchanged, is_skipped}
 use Rattle.reql_write.specs.declared.counting.Outcome.{Outcome}
 use Rattle.reql_write.specs.declared.counting.Outcome.TheVariants as o
 

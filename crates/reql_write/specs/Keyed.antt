@@ -4,7 +4,7 @@ use Rattle.reql_datum.specs.Members.{find}
 use Rattle.reql_datum.specs.Plain.{Plain}
 use Rattle.reql_rules.specs.Lists.{Bytes, object_of}
 use Rattle.reql_rules.specs.Types.{object_in}
-use Rattle.reql_write_law.specs.Treating.{keyed_in}
+use Rattle.reql_write_spec.specs.Treating.{keyed_in}
 
 -- its members, or none where a document takes no key
 abbrev pub Lacks : Bytes → Plain → Option (List (Bytes × Plain)) → Type 0

@@ -1,6 +1,6 @@
 -- What is listed of what a write treated.
 use Rattle.std.specs.Prelude.{◌≡◌, Bool, true, codes}
-use Rattle.reql_write_law.specs.Treated.{Treated, inserted, replaced, deleted}
+use Rattle.reql_write_spec.specs.Treated.{Treated, inserted, replaced, deleted}
 use Rattle.reql_write.specs.declared.listing.Labels.{Labels}
 
 pub record AreNamed (l : Labels) : Type 0 where

@@ -1,8 +1,8 @@
 -- What became of a document, as definitions speak of it.
 use Rattle.std.specs.Prelude.{List, [], ◌∷◌, Option, Some, None, option_map}
 use Rattle.reql_datum.specs.View.{plain}
-use Rattle.reql_write_law.specs.Treated.{Changed}
-use Rattle.reql_write_law.specs.Treated as law
+use Rattle.reql_write_spec.specs.Treated.{Changed}
+use Rattle.reql_write_spec.specs.Treated as law
 use Rattle.reql_write.specs.declared.treated.Treated.{Treated}
 use Rattle.reql_write.specs.declared.treated.Treated.TheVariants as t
 

@@ -7,9 +7,9 @@ use Rattle.reql_term.specs.Form.{Form}
 use Rattle.reql_term.specs.Views.{Document, Index}
 use Rattle.reql_term.specs.declared.range.Range.{Range}
 use Rattle.reql_rules.specs.Lists.{Bytes}
-use Rattle.reql_value.specs.Meaning.{value}
-use Rattle.reql_value.specs.World.{World}
-use Rattle.reql_write_law.specs.Selecting.{is_selection, slots, own_view, row_keys}
+use Rattle.reql_value_spec.specs.Meaning.{value}
+use Rattle.reql_value_spec.specs.World.{World}
+use Rattle.reql_write_spec.specs.Selecting.{is_selection, slots, own_view, row_keys}
 
 -- a table in some slots
 abbrev pub world_of : Bytes → List Document → List (Bytes × Index) → List ℕ → World

@@ -4,7 +4,7 @@ use Rattle.reql_datum.specs.declared.fault.Fault.{Fault}
 use Rattle.reql_datum.specs.declared.fault.Fault.TheVariants.{QueryLogic, NonExistence, ResourceLimit, OpFailed, User, Empty, Memory}
 use Rattle.reql_datum.specs.Plain.{Plain}
 use Rattle.reql_rules.specs.Lists.{Bytes}
-use Rattle.reql_write_law.specs.Treated.{Treated, failed}
+use Rattle.reql_write_spec.specs.Treated.{Treated, failed}
 
 -- which text it has; want of memory has none
 abbrev pub Tells : Fault → Bytes → Type 0

@@ -2,7 +2,7 @@
 ghost use Rattle.std.specs.Prelude.{◌≡◌, IfOk, option_map};
 ghost use Rattle.reql_datum.specs.Outcome.{Gives};
 ghost use Rattle.reql_datum.specs.View.{plain};
-ghost use Rattle.reql_write_law.specs.Treating.{given_by as given_by_of, updating as updating_of, without_doc as without_doc_of, replaced_by as replaced_by_of, replacing as replacing_of};
+ghost use Rattle.reql_write_spec.specs.Treating.{given_by as given_by_of, updating as updating_of, without_doc as without_doc_of, replaced_by as replaced_by_of, replacing as replacing_of};
 ghost use Rattle.reql_write.specs.Seen.{seen};
 ghost use Rattle.reql_write.specs.Changing.{update_of, replace_of};
 

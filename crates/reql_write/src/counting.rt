@@ -1,6 +1,6 @@
 // How many of the documents that a write treated came to each outcome, and its first error.
 ghost use Rattle.std.specs.Prelude.{◌≡◌, ◌∷◌, [], ◌≤◌, IfOk, map};
-ghost use Rattle.reql_write_law.specs.Write.{count as count_of, errors_in, first};
+ghost use Rattle.reql_write_spec.specs.Write.{count as count_of, errors_in, first};
 ghost use Rattle.reql_write.specs.Counting.{is_of};
 ghost use Rattle.reql_write.specs.Seen.{seen};
 

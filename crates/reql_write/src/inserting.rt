@@ -2,7 +2,7 @@
 ghost use Rattle.std.specs.Prelude.{◌≡◌, IfOk, option_map};
 ghost use Rattle.reql_datum.specs.Outcome.{Gives};
 ghost use Rattle.reql_datum.specs.View.{plain};
-ghost use Rattle.reql_write_law.specs.Treating.{meeting as meeting_of, met as met_of, key_of as key_of_of, inserting as inserting_of};
+ghost use Rattle.reql_write_spec.specs.Treating.{meeting as meeting_of, met as met_of, key_of as key_of_of, inserting as inserting_of};
 ghost use Rattle.reql_write.specs.Seen.{seen};
 
 use crate::members::field_in;
@@ -13,7 +13,7 @@ use reql_datum::{Datum, Fault, Memory, Name};
 use reql_operand::{misplaced, not_a_key};
 use reql_path::merge;
 use reql_ptree::{Steps, Tree};
-use reql_write_law::Conflict;
+use reql_write_spec::Conflict;
 use std::alloc::Global;
 
 // The primary key of a document.

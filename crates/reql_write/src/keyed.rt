@@ -4,7 +4,7 @@ ghost use Rattle.reql_datum.specs.Members.{put};
 ghost use Rattle.reql_datum.specs.View.{plain};
 ghost use Rattle.reql_rules.specs.Lists.{object_of};
 ghost use Rattle.reql_rules.specs.Types.{object_in};
-ghost use Rattle.reql_write_law.specs.Treating.{keyed as keyed_of, keyed_in};
+ghost use Rattle.reql_write_spec.specs.Treating.{keyed as keyed_of, keyed_in};
 ghost use Rattle.reql_write.specs.Keyed.{Lacks};
 
 use crate::members::members_in;

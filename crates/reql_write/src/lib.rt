@@ -18,4 +18,4 @@ mod treating;
 
 pub use plan::{Planned, plan_write};
 pub use reql_table::Table;
-pub use reql_write_law::{Act, Change, Conflict, Returns, Summary, WriteCmd};
+pub use reql_write_spec::{Act, Change, Conflict, Returns, Summary, WriteCmd};

@@ -4,8 +4,8 @@ ghost use Rattle.std.specs.List.{filter};
 ghost use Rattle.std.specs.Option.{unwrap_or};
 ghost use Rattle.reql_datum.specs.Plain.{null, text};
 ghost use Rattle.reql_datum.specs.View.{plain};
-ghost use Rattle.reql_write_law.specs.Treated.{between as between_of, shown as shown_of, changes_of};
-ghost use Rattle.reql_write_law.specs.Write.{listed as listed_of};
+ghost use Rattle.reql_write_spec.specs.Treated.{between as between_of, shown as shown_of, changes_of};
+ghost use Rattle.reql_write_spec.specs.Write.{listed as listed_of};
 ghost use Rattle.reql_rules.specs.Lists.{joined, object_of};
 ghost use Rattle.reql_table.specs.Edits.{told};
 ghost use Rattle.reql_write.specs.Listing.{AreNamed, is_wanted};
@@ -13,7 +13,7 @@ ghost use Rattle.reql_write.specs.Seen.{seen};
 
 use crate::treated::Treated;
 use reql_datum::{Datum, Fields, Items, Memory, Name};
-use reql_write_law::{Change, Returns};
+use reql_write_spec::{Change, Returns};
 use std::alloc::Global;
 
 // The names of what is listed of a change, made once and copied.

@@ -3,7 +3,7 @@ ghost use Rattle.std.specs.Prelude.{◌≡◌, option_map};
 ghost use Rattle.reql_datum.specs.Outcome.{Gives};
 ghost use Rattle.reql_datum.specs.View.{plain};
 ghost use Rattle.reql_rules.specs.Types.{object_in, is_null as is_null_of, as_object as as_object_of};
-ghost use Rattle.reql_write_law.specs.Treating.{field_in as field_in_of};
+ghost use Rattle.reql_write_spec.specs.Treating.{field_in as field_in_of};
 
 use crate::texts::type_text;
 use reql_datum::{Datum, Fault, Fields};

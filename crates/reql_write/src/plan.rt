@@ -5,8 +5,8 @@ ghost use Rattle.reql_datum.specs.Outcome.{Gives, Fails};
 ghost use Rattle.reql_rules.specs.Lists.{joined};
 ghost use Rattle.reql_table.specs.Edits.{told};
 ghost use Rattle.reql_table.specs.Seen.{documents_of, indexes_of};
-ghost use Rattle.reql_write_law.specs.Treated.{Treated as Meant, changes_of, changed_by};
-ghost use Rattle.reql_write_law.specs.Write.{write, treated as treated_of, made_by as made_by_of, errors_in, summed as summed_of, summary_of, all_changes};
+ghost use Rattle.reql_write_spec.specs.Treated.{Treated as Meant, changes_of, changed_by};
+ghost use Rattle.reql_write_spec.specs.Write.{write, treated as treated_of, made_by as made_by_of, errors_in, summed as summed_of, summary_of, all_changes};
 ghost use Rattle.reql_write.specs.Acting.{items_treated};
 ghost use Rattle.reql_write.specs.Seen.{seen};
 
@@ -19,7 +19,7 @@ use crate::treating::treat_all;
 use reql_datum::{Fault, Items, Memory};
 use reql_ptree::Tree;
 use reql_table::Table;
-use reql_write_law::{Act, Change, Summary, WriteCmd};
+use reql_write_spec::{Act, Change, Summary, WriteCmd};
 use std::alloc::Global;
 
 /// What a write will do to its table, and what it reports.

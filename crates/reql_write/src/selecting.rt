@@ -4,7 +4,7 @@ ghost use Rattle.reql_datum.specs.Outcome.{Gives};
 ghost use Rattle.reql_term.specs.View.{form_of};
 ghost use Rattle.reql_operand.specs.Tables.{seen as seen_world};
 ghost use Rattle.reql_table.specs.Seen.{documents_of, indexes_of, entries_at};
-ghost use Rattle.reql_write_law.specs.Selecting.{selected as selected_of};
+ghost use Rattle.reql_write_spec.specs.Selecting.{selected as selected_of};
 ghost use Rattle.reql_write.specs.Selecting.{world_of, selected_at, SelectsIn};
 
 use crate::selection::keys_of_value;
@@ -12,9 +12,9 @@ use crate::slots::{is_chain, slots};
 use reql_datum::{Fault, Items, Memory, Name};
 use reql_eval::eval;
 use reql_operand::{Viewed, World};
-use reql_sense::Vars;
 use reql_table::Table;
 use reql_term::{Body, Term};
+use reql_term_analysis::Vars;
 use std::alloc::Global;
 
 // The slot of the one table of which a term selects rows, if it is such a term.

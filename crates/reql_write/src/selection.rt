@@ -6,7 +6,7 @@ ghost use Rattle.reql_datum.specs.View.{plain};
 ghost use Rattle.reql_operand.specs.Seen.{meant};
 ghost use Rattle.reql_operand.specs.Tables.{seen as seen_world};
 ghost use Rattle.reql_table.specs.Seen.{documents_of, indexes_of, entries_at};
-ghost use Rattle.reql_write_law.specs.Selecting.{key_in as key_in_of, row_keys};
+ghost use Rattle.reql_write_spec.specs.Selecting.{key_in as key_in_of, row_keys};
 ghost use Rattle.reql_write.specs.Selecting.{IsWhole};
 
 use crate::members::field_in;

@@ -2,7 +2,7 @@
 ghost use Rattle.std.specs.Prelude.{◌≡◌, ◌++◌, [], IfOk};
 ghost use Rattle.reql_term.specs.Form.{forms_of, named_of};
 ghost use Rattle.reql_term.specs.View.{form_of};
-ghost use Rattle.reql_write_law.specs.Selecting.{selects as selects_of, is_chain as is_chain_of, first_is_chain as first_is_chain_of, slots as slots_of_form, slots_of, slots_named};
+ghost use Rattle.reql_write_spec.specs.Selecting.{selects as selects_of, is_chain as is_chain_of, first_is_chain as first_is_chain_of, slots as slots_of_form, slots_of, slots_named};
 
 use reql_datum::Memory;
 use reql_term::{Op, Term, TermFields, Terms};

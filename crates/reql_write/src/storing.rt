@@ -4,7 +4,7 @@ ghost use Rattle.reql_datum.specs.Outcome.{Gives};
 ghost use Rattle.reql_datum.specs.View.{plain};
 ghost use Rattle.reql_rules.specs.Patterns.{holds};
 ghost use Rattle.reql_rules.specs.Types.{same};
-ghost use Rattle.reql_write_law.specs.Treating.{field_in as field_in_of, standing as standing_of, storing as storing_of, keeping_stored as keeping_stored_of};
+ghost use Rattle.reql_write_spec.specs.Treating.{field_in as field_in_of, standing as standing_of, storing as storing_of, keeping_stored as keeping_stored_of};
 ghost use Rattle.reql_write.specs.Seen.{seen};
 
 use crate::members::field_in;

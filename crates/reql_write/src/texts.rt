@@ -2,7 +2,7 @@
 ghost use Rattle.std.specs.Prelude.{◌≡◌, IfOk};
 ghost use Rattle.reql_datum.specs.Answer.{query_logic};
 ghost use Rattle.reql_rules.specs.Faults.{type_text as type_text_of, unshowable as unshowable_of};
-ghost use Rattle.reql_write_law.specs.Treating.{duplicate as duplicate_of, key_changed as key_changed_of};
+ghost use Rattle.reql_write_spec.specs.Treating.{duplicate as duplicate_of, key_changed as key_changed_of};
 
 use reql_datum::{Memory, Name};
 use std::alloc::Global;

@@ -3,15 +3,15 @@ ghost use Rattle.std.specs.Prelude.{◌≡◌, IfOk, option_map};
 ghost use Rattle.reql_datum.specs.Answer.{Answer};
 ghost use Rattle.reql_datum.specs.Outcome.{Gives, Fails};
 ghost use Rattle.reql_datum.specs.View.{plain};
-ghost use Rattle.reql_write_law.specs.Treated.{Treated as Meant, changes_of};
-ghost use Rattle.reql_write_law.specs.Treating.{or_failed as or_failed_of};
-ghost use Rattle.reql_write_law.specs.Write.{error_in};
+ghost use Rattle.reql_write_spec.specs.Treated.{Treated as Meant, changes_of};
+ghost use Rattle.reql_write_spec.specs.Treating.{or_failed as or_failed_of};
+ghost use Rattle.reql_write_spec.specs.Write.{error_in};
 ghost use Rattle.reql_table.specs.Edits.{told};
 ghost use Rattle.reql_write.specs.Seen.{seen, change_list};
 ghost use Rattle.reql_write.specs.Told.{Tells, Falls};
 
 use reql_datum::{Datum, Fault, Memory, Name};
-use reql_write_law::Change;
+use reql_write_spec::Change;
 use std::alloc::Global;
 
 /// What became of a document that a write treated.

@@ -4,8 +4,8 @@ ghost use Rattle.reql_memory.specs.Sorted.{find_by, put_by, without_by};
 ghost use Rattle.reql_datum.specs.Order.{order};
 ghost use Rattle.reql_datum.specs.View.{plain};
 ghost use Rattle.reql_rules.specs.Lists.{joined};
-ghost use Rattle.reql_write_law.specs.Treated.{changes_of, changed_by};
-ghost use Rattle.reql_write_law.specs.Treating.{treat_all as treat_all_of};
+ghost use Rattle.reql_write_spec.specs.Treated.{changes_of, changed_by};
+ghost use Rattle.reql_write_spec.specs.Treating.{treat_all as treat_all_of};
 ghost use Rattle.reql_write.specs.Acting.{treating};
 ghost use Rattle.reql_write.specs.Seen.{seen};
 
@@ -14,7 +14,7 @@ use crate::inserting::insert;
 use crate::treated::Treated;
 use reql_datum::{Datum, Items, Memory, Name};
 use reql_ptree::{Steps, Tree};
-use reql_write_law::Act;
+use reql_write_spec::Act;
 use std::alloc::Global;
 
 // What is at a key.

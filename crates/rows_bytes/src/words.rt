@@ -89,7 +89,10 @@ const CASES: [(&[&str], &str); 81] = [
         "listen 1 1 1 ``",
     ),
     (&["listen"], "listen 28015 4 4294967295 ``"),
-    (&["listen", "--workers", "2"], "listen 28015 2 4294967295 ``"),
+    (
+        &["listen", "--workers", "2"],
+        "listen 28015 2 4294967295 ``",
+    ),
     (&["listen", "--port"], "a port is missing"),
     (&["listen", "--port", "1", "--port"], "wrong `--port`"),
     (&["listen", "--port", "1", "--port", "1"], "wrong `--port`"),
@@ -326,8 +329,24 @@ fn passwords_have_at_most_256_characters(rt: HostRuntime) -> Result<(), Fail> {
 const TOLD: [(&[&str], &[&str]); 3] = [
     (&[], &[]),
     (
-        &["listen", "--key", "--password-file", "--password-file", "f", "--quiet", "--table=a.b"],
-        &["listen", "--key", "--password-file", "--password", "p", "--quiet", "--table=a.b"],
+        &[
+            "listen",
+            "--key",
+            "--password-file",
+            "--password-file",
+            "f",
+            "--quiet",
+            "--table=a.b",
+        ],
+        &[
+            "listen",
+            "--key",
+            "--password-file",
+            "--password",
+            "p",
+            "--quiet",
+            "--table=a.b",
+        ],
     ),
     (&["stdio", "--password-file=f"], &["stdio", "--password=p"]),
 ];

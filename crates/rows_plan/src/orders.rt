@@ -2,7 +2,7 @@
 use crate::terms::put_term;
 use crate::words::{put, put_if, put_items, put_name, put_number};
 use reql_datum::{Items, Name, Point};
-use reql_law::{Act, Cmd, Conflict, FeedKind, FeedSpec, Order, Returns, WriteCmd};
+use reql_table_spec::{Act, Cmd, Conflict, FeedKind, FeedSpec, Order, Returns, WriteCmd};
 use reql_term::{Body, IndexDef};
 use std::alloc::Global;
 

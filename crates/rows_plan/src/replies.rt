@@ -1,7 +1,7 @@
 // What a table says to an order.
 use crate::tables::count_in;
 use reql_datum::{Datum, Fields, Items, Name};
-use reql_law::{Reply, Said, Saved, Summary};
+use reql_table_spec::{Reply, Said, Saved, Summary};
 use rows_reader::{list, object, text};
 use std::alloc::Global;
 

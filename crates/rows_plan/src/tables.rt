@@ -1,7 +1,7 @@
 // Tables that rows describe.
 use reql_datum::{Datum, Fields, Items, Name};
-use reql_law::Look;
 use reql_table::{Change, IndexDef, Table};
+use reql_table_spec::Look;
 use reql_term::{Body, Op, Params, Term, TermFields, Terms};
 use rows_reader::{list, number, object, text};
 use std::alloc::Global;

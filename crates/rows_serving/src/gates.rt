@@ -5,7 +5,7 @@ use crate::pieces::{GREETED, GREETING, INSERT, with_frames, words_of};
 use reql_outside::{MemClock, MemDice};
 use reql_run::{Heard, listen};
 use reql_serve::Member;
-use reql_story::End;
+use reql_session_spec::End;
 use std::alloc::Global;
 use std::sync::atomic::AtomicU64;
 use std::sync::{Arc, Wait};

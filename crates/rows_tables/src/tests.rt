@@ -1,11 +1,11 @@
 use reql_core::{Base, TableCore};
 use reql_datum::{Datum, Fields, Items, Memory, Name, Seq, Whole};
-use reql_law::{Cmd, Keeping, Limits, Order};
 use reql_open_feed::OpenFeed;
 use reql_shared::{Engine, Snap};
 use reql_table::{Change, Table};
+use reql_table_spec::{Cmd, Keeping, Limits, Order};
 use reql_term::{Body, Op, Term, TermFields, Terms};
-use reql_write_law::{Act, Conflict, Returns, WriteCmd};
+use reql_write_spec::{Act, Conflict, Returns, WriteCmd};
 use std::alloc::Global;
 use std::slice;
 use std::test::Fail;

@@ -1,4 +1,4 @@
-use Rattle.reql_value.specs.Fields.{with_fields}
+use Rattle.reql_value_spec.specs.Fields.{with_fields}
 use Rattle.reql_operand.specs.Seen.{shown, all_shown}
 use Rattle.reql_operand.specs.Tables.{seen}
 use Rattle.reql_apply.proofs.Headed.{gives_like_first}

@@ -1,6 +1,6 @@
 use Rattle.std.proofs.Common.{List}
 use Rattle.reql_datum.specs.Plain.{Plain}
-use Rattle.reql_value.specs.Wanted.{as_sequence}
+use Rattle.reql_value_spec.specs.Wanted.{as_sequence}
 use Rattle.reql_operand.specs.Seen.{shown, all_shown, all_chosen}
 use Rattle.reql_operand.specs.Tables.{seen}
 use Rattle.reql_apply_group.specs.Grouped.{groups_of}

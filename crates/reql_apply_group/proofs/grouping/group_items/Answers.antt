@@ -1,8 +1,8 @@
 use Rattle.std.proofs.Common.{Option, rules}
 use Rattle.reql_rules.specs.Lists.{Bytes}
-use Rattle.reql_value.specs.Groups.{group_in}
-use Rattle.reql_value.specs.Meant.{meant_of}
-use Rattle.reql_value.specs.Wanted.{index_text}
+use Rattle.reql_value_spec.specs.Groups.{group_in}
+use Rattle.reql_value_spec.specs.Meant.{meant_of}
+use Rattle.reql_value_spec.specs.Wanted.{index_text}
 use Rattle.reql_operand.specs.Seen.{shown, all_shown, all_chosen}
 use Rattle.reql_operand.specs.Tables.{seen}
 use Rattle.reql_operand.proofs.Steps.{fails_on}

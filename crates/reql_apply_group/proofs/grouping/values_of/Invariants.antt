@@ -2,8 +2,8 @@ use Rattle.std.proofs.Common.{◌≡◌, ◌++◌, drop, Ok}
 use Rattle.reql_datum.specs.Answer.{◌>>=◌}
 use Rattle.reql_datum.specs.View.{plain}
 use Rattle.reql_rules.specs.Lists.{each}
-use Rattle.reql_value.specs.Meant.{Calls}
-use Rattle.reql_value.specs.World.{World}
+use Rattle.reql_value_spec.specs.Meant.{Calls}
+use Rattle.reql_value_spec.specs.World.{World}
 use Rattle.reql_operand.specs.Called.{Answers}
 use Rattle.reql_operand.specs.Seen.{all_shown}
 use Rattle.reql_apply_group.specs.Grouped.{key_or_null}

@@ -2,9 +2,9 @@ use Rattle.std.proofs.Common.{List}
 use Rattle.reql_datum.specs.Plain.{Plain}
 use Rattle.reql_term.specs.Views.{Entry}
 use Rattle.reql_rules.specs.Joining.{eq_join_all}
-use Rattle.reql_value.specs.Called.{answer_key}
-use Rattle.reql_value.specs.Joins.{having}
-use Rattle.reql_value.specs.World.{entries_named}
+use Rattle.reql_value_spec.specs.Called.{answer_key}
+use Rattle.reql_value_spec.specs.Joins.{having}
+use Rattle.reql_value_spec.specs.World.{entries_named}
 use Rattle.reql_operand.specs.Seen.{shown}
 use Rattle.reql_operand.specs.Tables.{view}
 use Rattle.reql_apply_group.proofs.Steps.{then_gives}

@@ -1,6 +1,6 @@
 use Rattle.std.proofs.Common.{rules}
 use Rattle.reql_datum.specs.View.{plain}
-use Rattle.reql_value.specs.Joins.{having}
+use Rattle.reql_value_spec.specs.Joins.{having}
 use Rattle.reql_operand.specs.Tables.{view}
 use Rattle.reql_apply_group.proofs.Joined.{rows_of_key}
 use Rattle.reql_apply_group.proofs.joins.join_entries.Goals as goal

@@ -2,8 +2,8 @@ use Rattle.std.proofs.Common.{List}
 use Rattle.reql_datum.specs.Plain.{Plain}
 use Rattle.reql_datum.specs.View.{plain}
 use Rattle.reql_rules.specs.Totals.{total}
-use Rattle.reql_value.specs.Called.{answer_key}
-use Rattle.reql_value.specs.Wanted.{as_sequence}
+use Rattle.reql_value_spec.specs.Called.{answer_key}
+use Rattle.reql_value_spec.specs.Wanted.{as_sequence}
 use Rattle.reql_operand.specs.Seen.{shown}
 use Rattle.reql_operand.specs.Tables.{seen}
 use Rattle.reql_apply_group.proofs.Steps.{then_gives}

@@ -1,7 +1,7 @@
 use Rattle.std.proofs.Common.{Option, option_and_then, subst, ℤ}
 use Rattle.reql_datum.specs.Outcome.{Gives}
 use Rattle.reql_rules.specs.Types.{text_in}
-use Rattle.reql_value.specs.Wanted.{seen as seen_of}
+use Rattle.reql_value_spec.specs.Wanted.{seen as seen_of}
 use Rattle.reql_operand.specs.Seen.{meant, shown, all_shown}
 use Rattle.reql_operand.specs.Tables.{seen}
 use Rattle.reql_apply_path.specs.Brackets.{bracket_at}

@@ -1,7 +1,7 @@
 use Rattle.std.proofs.Common.{rules, ap, Ok}
 use Rattle.reql_datum.specs.Answer.{◌>>=◌}
-use Rattle.reql_value.specs.Fields.{nth_rule}
-use Rattle.reql_value.specs.Meant.{one}
+use Rattle.reql_value_spec.specs.Fields.{nth_rule}
+use Rattle.reql_value_spec.specs.Meant.{one}
 use Rattle.reql_operand.specs.Seen.{all_shown}
 use Rattle.reql_operand.specs.Tables.{seen}
 use Rattle.reql_operand.proofs.Steps.{fails_on}

@@ -2,8 +2,8 @@ use Rattle.std.proofs.Common.{◌≡◌, ◌++◌, drop, map, true, Ok}
 use Rattle.reql_datum.specs.Answer.{◌>>=◌}
 use Rattle.reql_datum.specs.Plain.{items_of}
 use Rattle.reql_rules.specs.Patterns.{are_patterns}
-use Rattle.reql_value.specs.Fields.{patterns}
-use Rattle.reql_value.specs.World.{World}
+use Rattle.reql_value_spec.specs.Fields.{patterns}
+use Rattle.reql_value_spec.specs.World.{World}
 use Rattle.reql_operand.specs.Seen.{shown, all_shown}
 use Rattle.reql_apply_path.proofs.having.documents.Given as goal
 

@@ -2,7 +2,7 @@ use Rattle.std.proofs.Common.{◌≡◌, ◌++◌, ◌-◌, List, length, drop, 
 use Rattle.reql_datum.specs.Answer.{◌>>=◌}
 use Rattle.reql_datum.specs.Plain.{Plain}
 use Rattle.reql_rules.specs.Lists.{array_of}
-use Rattle.reql_value.specs.Fields.{having}
+use Rattle.reql_value_spec.specs.Fields.{having}
 use Rattle.reql_apply_path.proofs.having.those_having.Given as goal
 
 abbrev pub invariant-loop-d : goal.invariant-loop-d

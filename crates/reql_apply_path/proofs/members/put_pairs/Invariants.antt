@@ -1,5 +1,5 @@
 use Rattle.std.proofs.Common.{◌≡◌, [], length}
-use Rattle.reql_value.specs.World.{World}
+use Rattle.reql_value_spec.specs.World.{World}
 use Rattle.reql_operand.specs.Seen.{all_shown}
 use Rattle.reql_apply_path.specs.Pairs.{put_pairs}
 use Rattle.reql_apply_path.proofs.members.put_pairs.Given as goal

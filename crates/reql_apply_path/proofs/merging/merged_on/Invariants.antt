@@ -1,8 +1,8 @@
 use Rattle.std.proofs.Common.{◌≡◌, drop, map}
 use Rattle.reql_datum.specs.View.{plain}
-use Rattle.reql_value.specs.Fields.{merged_on}
-use Rattle.reql_value.specs.Meant.{Calls}
-use Rattle.reql_value.specs.World.{World}
+use Rattle.reql_value_spec.specs.Fields.{merged_on}
+use Rattle.reql_value_spec.specs.Meant.{Calls}
+use Rattle.reql_value_spec.specs.World.{World}
 use Rattle.reql_operand.specs.Called.{Answers}
 use Rattle.reql_operand.specs.Seen.{shown, all_shown}
 use Rattle.reql_apply_path.proofs.merging.merged_on.Given as goal

@@ -2,7 +2,7 @@ use Rattle.std.proofs.Common.{refl, rules, sym, subst}
 use Rattle.reql_datum.specs.Answer.{Answer}
 use Rattle.reql_datum.specs.Outcome.{Gives}
 use Rattle.reql_rules.specs.Patterns.{pluck}
-use Rattle.reql_value.specs.Meant.{Meant}
+use Rattle.reql_value_spec.specs.Meant.{Meant}
 use Rattle.reql_operand.specs.Seen.{meant, shown}
 use Rattle.reql_operand.specs.Tables.{seen}
 use Rattle.reql_apply_path.specs.Merged.{named_in}

@@ -1,6 +1,6 @@
 use Rattle.std.proofs.Common.{◌≡◌, ◌++◌, drop, map, Ok}
 use Rattle.reql_datum.specs.Answer.{◌>>=◌}
-use Rattle.reql_value.specs.World.{World}
+use Rattle.reql_value_spec.specs.World.{World}
 use Rattle.reql_operand.specs.Seen.{shown, all_shown}
 use Rattle.reql_apply_scalar.specs.Operands.{operands}
 use Rattle.reql_apply_scalar.proofs.adding.operands.Given as goal

@@ -1,6 +1,6 @@
 use Rattle.std.proofs.Common.{rules}
-use Rattle.reql_value.specs.Called.{answer}
-use Rattle.reql_value.specs.Wanted.{as_data}
+use Rattle.reql_value_spec.specs.Called.{answer}
+use Rattle.reql_value_spec.specs.Wanted.{as_data}
 use Rattle.reql_operand.specs.Seen.{shown, all_shown}
 use Rattle.reql_operand.proofs.Steps.{fails_on}
 use Rattle.reql_apply_scalar.proofs.scalars.called.Goals as goal

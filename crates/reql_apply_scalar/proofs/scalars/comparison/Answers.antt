@@ -2,7 +2,7 @@ use Rattle.std.proofs.Common.{rules, ap, sym, ◌∙◌, Ok}
 use Rattle.reql_datum.specs.Answer.{◌>>=◌}
 use Rattle.reql_datum.specs.Plain.{boolean}
 use Rattle.reql_rules.specs.Relations.{relate}
-use Rattle.reql_value.specs.Wanted.{as_data}
+use Rattle.reql_value_spec.specs.Wanted.{as_data}
 use Rattle.reql_operand.specs.Seen.{all_shown}
 use Rattle.reql_operand.proofs.Steps.{fails_on}
 use Rattle.reql_apply_scalar.proofs.scalars.comparison.Goals as goal

@@ -1,7 +1,7 @@
 use Rattle.std.proofs.Common.{sym, subst, List}
 use Rattle.reql_datum.specs.Outcome.{Gives}
-use Rattle.reql_value.specs.Meant.{Given}
-use Rattle.reql_value.specs.Scalars.{funcall}
+use Rattle.reql_value_spec.specs.Meant.{Given}
+use Rattle.reql_value_spec.specs.Scalars.{funcall}
 use Rattle.reql_operand.specs.Seen.{meant, shown}
 use Rattle.reql_apply_scalar.proofs.Walked.{headed}
 use Rattle.reql_apply_scalar.proofs.scalars.funcall.Goals as goal

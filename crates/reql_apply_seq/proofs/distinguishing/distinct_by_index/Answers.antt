@@ -1,4 +1,4 @@
-use Rattle.reql_value.specs.Meant.{meant_of}
+use Rattle.reql_value_spec.specs.Meant.{meant_of}
 use Rattle.reql_operand.specs.Seen.{shown}
 use Rattle.reql_operand.specs.Tables.{seen}
 use Rattle.reql_apply_seq.proofs.Indexes.{distinct_seen}

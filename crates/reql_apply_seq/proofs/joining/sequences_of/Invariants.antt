@@ -1,7 +1,7 @@
 use Rattle.std.proofs.Common.{◌≡◌, ◌++◌, drop, Ok}
 use Rattle.reql_datum.specs.Answer.{◌>>=◌}
 use Rattle.reql_rules.specs.Lists.{each}
-use Rattle.reql_value.specs.Wanted.{as_sequence}
+use Rattle.reql_value_spec.specs.Wanted.{as_sequence}
 use Rattle.reql_operand.specs.Seen.{all_shown}
 use Rattle.reql_operand.specs.Tables.{seen}
 use Rattle.reql_apply_seq.proofs.joining.sequences_of.Given as goal

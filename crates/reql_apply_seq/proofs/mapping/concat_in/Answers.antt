@@ -1,5 +1,5 @@
 use Rattle.std.proofs.Common.{[], ◌∷◌}
-use Rattle.reql_value.specs.Sequences.{concat_map}
+use Rattle.reql_value_spec.specs.Sequences.{concat_map}
 use Rattle.reql_operand.specs.Seen.{shown}
 use Rattle.reql_operand.specs.Tables.{seen}
 use Rattle.reql_apply_seq.proofs.mapping.concat_in.Goals as goal

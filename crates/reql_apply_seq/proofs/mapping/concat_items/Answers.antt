@@ -1,5 +1,5 @@
 use Rattle.std.proofs.Common.{rules}
-use Rattle.reql_value.specs.Called.{answer_items}
+use Rattle.reql_value_spec.specs.Called.{answer_items}
 use Rattle.reql_operand.specs.Seen.{shown}
 use Rattle.reql_operand.specs.Tables.{seen}
 use Rattle.reql_apply_seq.proofs.mapping.concat_items.Goals as goal

@@ -1,9 +1,9 @@
 use Rattle.std.proofs.Common.{◌≡◌, ◌++◌, ◌-◌, length, drop, Ok}
 use Rattle.reql_datum.specs.Answer.{◌>>=◌}
 use Rattle.reql_rules.specs.Mapping.{places_from}
-use Rattle.reql_value.specs.Called.{passes}
-use Rattle.reql_value.specs.Meant.{Calls}
-use Rattle.reql_value.specs.World.{World}
+use Rattle.reql_value_spec.specs.Called.{passes}
+use Rattle.reql_value_spec.specs.Meant.{Calls}
+use Rattle.reql_value_spec.specs.World.{World}
 use Rattle.reql_operand.specs.Called.{Answers}
 use Rattle.reql_operand.specs.Seen.{shown}
 use Rattle.reql_apply_seq.proofs.offsets.places_of.Given as goal

@@ -1,6 +1,6 @@
 use Rattle.std.proofs.Common.{Option, subst}
 use Rattle.reql_datum.specs.Outcome.{Gives}
-use Rattle.reql_value.specs.Meant.{Given}
+use Rattle.reql_value_spec.specs.Meant.{Given}
 use Rattle.reql_operand.specs.Seen.{meant, shown, all_shown}
 use Rattle.reql_operand.specs.Tables.{seen}
 use Rattle.reql_apply_seq.specs.Orders.{ordered_as}

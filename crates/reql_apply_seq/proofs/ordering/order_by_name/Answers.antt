@@ -1,7 +1,7 @@
 use Rattle.std.proofs.Common.{sym, subst}
 use Rattle.reql_datum.specs.Answer.{Answer}
 use Rattle.reql_datum.specs.Outcome.{Gives}
-use Rattle.reql_value.specs.Meant.{Meant, meant_of}
+use Rattle.reql_value_spec.specs.Meant.{Meant, meant_of}
 use Rattle.reql_operand.specs.Seen.{meant, shown, all_shown}
 use Rattle.reql_operand.specs.Tables.{seen}
 use Rattle.reql_apply_seq.proofs.Onwards.{named_order}

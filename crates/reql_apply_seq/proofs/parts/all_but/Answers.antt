@@ -1,5 +1,5 @@
 use Rattle.std.proofs.Common.{Ok, sym, ap}
-use Rattle.reql_value.specs.Meant.{meant_of}
+use Rattle.reql_value_spec.specs.Meant.{meant_of}
 use Rattle.reql_operand.specs.Seen.{shown}
 use Rattle.reql_operand.specs.Tables.{seen}
 use Rattle.reql_apply_seq.proofs.parts.all_but.Goals as goal

@@ -1,7 +1,7 @@
 use Rattle.std.proofs.Common.{◌≡◌, drop}
-use Rattle.reql_value.specs.Meant.{Calls}
-use Rattle.reql_value.specs.Sequences.{all_contained}
-use Rattle.reql_value.specs.World.{World}
+use Rattle.reql_value_spec.specs.Meant.{Calls}
+use Rattle.reql_value_spec.specs.Sequences.{all_contained}
+use Rattle.reql_value_spec.specs.World.{World}
 use Rattle.reql_operand.specs.Called.{Answers}
 use Rattle.reql_operand.specs.Seen.{all_shown}
 use Rattle.reql_apply_seq.specs.Passing.{and_on}

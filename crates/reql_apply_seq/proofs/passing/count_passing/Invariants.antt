@@ -1,8 +1,8 @@
 use Rattle.std.proofs.Common.{◌≡◌, ◌≤◌, ◌-◌, length, drop}
 use Rattle.reql_rules.specs.Mapping.{passing}
-use Rattle.reql_value.specs.Called.{passes}
-use Rattle.reql_value.specs.Meant.{Calls}
-use Rattle.reql_value.specs.World.{World}
+use Rattle.reql_value_spec.specs.Called.{passes}
+use Rattle.reql_value_spec.specs.Meant.{Calls}
+use Rattle.reql_value_spec.specs.World.{World}
 use Rattle.reql_operand.specs.Called.{Answers}
 use Rattle.reql_operand.specs.Seen.{shown}
 use Rattle.reql_apply_seq.specs.Passing.{counting, count_on}

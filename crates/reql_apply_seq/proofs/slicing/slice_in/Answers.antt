@@ -1,5 +1,5 @@
 use Rattle.std.proofs.Common.{◌∷◌}
-use Rattle.reql_value.specs.Sequences.{slice_rule}
+use Rattle.reql_value_spec.specs.Sequences.{slice_rule}
 use Rattle.reql_operand.specs.Seen.{shown, all_shown, all_chosen}
 use Rattle.reql_operand.specs.Tables.{seen}
 use Rattle.reql_apply_seq.proofs.slicing.slice_in.Goals as goal

@@ -1,7 +1,7 @@
 use Rattle.std.proofs.Common.{ℕ, List}
 use Rattle.reql_datum.specs.Plain.{Plain}
-use Rattle.reql_value.specs.Wanted.{as_table}
-use Rattle.reql_value.specs.World.{View}
+use Rattle.reql_value_spec.specs.Wanted.{as_table}
+use Rattle.reql_value_spec.specs.World.{View}
 use Rattle.reql_operand.specs.Seen.{shown, all_shown}
 use Rattle.reql_operand.specs.Tables.{view, seen}
 use Rattle.reql_apply_table.specs.Indexes.{statuses_asked}

@@ -1,8 +1,8 @@
 use Rattle.std.proofs.Common.{List, rules}
 use Rattle.reql_datum.specs.Plain.{Plain}
 use Rattle.reql_rules.specs.Lists.{Bytes, each}
-use Rattle.reql_value.specs.Tables.{index_names, or_all}
-use Rattle.reql_value.specs.Wanted.{as_text}
+use Rattle.reql_value_spec.specs.Tables.{index_names, or_all}
+use Rattle.reql_value_spec.specs.Wanted.{as_text}
 use Rattle.reql_operand.specs.Seen.{all_shown}
 use Rattle.reql_operand.specs.Tables.{view}
 use Rattle.reql_operand.proofs.Steps.{fails_on}

@@ -1,5 +1,5 @@
 use Rattle.std.proofs.Common.{rules}
-use Rattle.reql_value.specs.Wanted.{as_text}
+use Rattle.reql_value_spec.specs.Wanted.{as_text}
 use Rattle.reql_operand.specs.Seen.{shown}
 use Rattle.reql_operand.proofs.Steps.{each_step, each_fails, each_done}
 use Rattle.reql_apply_table.proofs.indexes.texts_of.Goals as goal

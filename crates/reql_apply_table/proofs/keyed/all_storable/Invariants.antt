@@ -3,7 +3,7 @@ use Rattle.reql_datum.specs.Answer.{◌>>=◌}
 use Rattle.reql_datum.specs.Kinds.{is_storable}
 use Rattle.reql_datum.specs.View.{plain}
 use Rattle.reql_rules.specs.Lists.{each}
-use Rattle.reql_value.specs.Tables.{key_if}
+use Rattle.reql_value_spec.specs.Tables.{key_if}
 use Rattle.reql_apply_table.proofs.keyed.all_storable.Given as goal
 
 abbrev pub invariant-loop-key : goal.invariant-loop-key

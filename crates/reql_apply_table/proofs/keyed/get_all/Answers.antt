@@ -1,6 +1,6 @@
 use Rattle.std.proofs.Common.{ℕ}
-use Rattle.reql_value.specs.Wanted.{as_table}
-use Rattle.reql_value.specs.World.{View}
+use Rattle.reql_value_spec.specs.Wanted.{as_table}
+use Rattle.reql_value_spec.specs.World.{View}
 use Rattle.reql_operand.specs.Seen.{meant, shown, all_shown, all_chosen}
 use Rattle.reql_operand.specs.Tables.{view, seen}
 use Rattle.reql_apply_table.specs.Sources.{rows_at}

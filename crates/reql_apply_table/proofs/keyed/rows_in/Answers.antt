@@ -1,6 +1,6 @@
 use Rattle.std.proofs.Common.{List, rules}
 use Rattle.reql_datum.specs.Plain.{Plain}
-use Rattle.reql_value.specs.Wanted.{as_data}
+use Rattle.reql_value_spec.specs.Wanted.{as_data}
 use Rattle.reql_operand.specs.Seen.{meant, all_shown, all_chosen}
 use Rattle.reql_operand.specs.Tables.{view}
 use Rattle.reql_operand.proofs.Steps.{fails_on}

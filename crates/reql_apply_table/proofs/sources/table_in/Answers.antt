@@ -1,4 +1,4 @@
-use Rattle.reql_value.specs.Meant.{meant_of}
+use Rattle.reql_value_spec.specs.Meant.{meant_of}
 use Rattle.reql_operand.specs.Seen.{shown}
 use Rattle.reql_operand.specs.Tables.{view, seen}
 use Rattle.reql_apply_table.proofs.Slices.{table_stands}

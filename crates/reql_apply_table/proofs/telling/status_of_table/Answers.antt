@@ -1,7 +1,7 @@
 use Rattle.std.proofs.Common.{◌≡◌, IfOk, subst}
 use Rattle.reql_datum.specs.View.{plain}
 use Rattle.reql_rules.specs.Admin.{About, table_status}
-use Rattle.reql_value.specs.Tables.{index_names}
+use Rattle.reql_value_spec.specs.Tables.{index_names}
 use Rattle.reql_operand.specs.Tables.{view}
 use Rattle.reql_apply_table.proofs.telling.status_of_table.Goals as goal
 

@@ -1,5 +1,5 @@
 use Rattle.std.proofs.Common.{◌≡◌, ◌-◌, drop, length}
-use Rattle.reql_story.specs.Bodies.{is_united}
+use Rattle.reql_session_spec.specs.Bodies.{is_united}
 use Rattle.reql_bodies.proofs.batches.is_united.Given as goal
 
 abbrev pub invariant-loop-note : goal.invariant-loop-note

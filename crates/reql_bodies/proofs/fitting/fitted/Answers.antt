@@ -1,6 +1,6 @@
 use Rattle.std.proofs.Common.{◌≡◌, true, cond, IfOk, sym, subst, ◌∙◌}
-use Rattle.reql_story.specs.Bodies.{body}
-use Rattle.reql_story.specs.Tasks as tasks
+use Rattle.reql_session_spec.specs.Bodies.{body}
+use Rattle.reql_session_spec.specs.Tasks as tasks
 use Rattle.reql_bodies.proofs.fitting.fitted.Goals as goal
 
 pub returns-then-is_long : goal.returns-then-is_long

@@ -1,7 +1,7 @@
 use Rattle.std.proofs.Common.{refl}
 use Rattle.std.specs.Fmt.{digits}
 use Rattle.serde_json.proofs.OnLiterals.{serde_json_on_literals}
-use Rattle.reql_story.specs.Bodies.{body}
+use Rattle.reql_session_spec.specs.Bodies.{body}
 use Rattle.reql_bodies.proofs.fixed.info.Goals as goal
 
 pub returns : goal.returns

@@ -1,6 +1,6 @@
 use Rattle.std.proofs.Common.{◌+◌, drop, map}
 use Rattle.reql_table.specs.Seen.{documents_of}
-use Rattle.reql_write_law.specs.Laws.{AllCome}
+use Rattle.reql_write_spec.specs.Laws.{AllCome}
 use Rattle.reql_feeds.specs.Record.{records}
 use Rattle.reql_feeds.specs.Turn.{told}
 use Rattle.reql_core.specs.Writing.{AreAt, with_feeds}

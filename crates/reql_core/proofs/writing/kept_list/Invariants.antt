@@ -1,6 +1,6 @@
 use Rattle.std.proofs.Common.{◌≡◌, ◌++◌, drop, map}
-use Rattle.reql_law.specs.Engines.{kept_of}
-use Rattle.reql_law.specs.Table.{at_key}
+use Rattle.reql_table_spec.specs.Engines.{kept_of}
+use Rattle.reql_table_spec.specs.Table.{at_key}
 use Rattle.reql_feeds.specs.Turn.{told}
 use Rattle.reql_core.proofs.writing.kept_list.Given as goal
 

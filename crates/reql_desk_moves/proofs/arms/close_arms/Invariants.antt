@@ -1,9 +1,9 @@
 use Rattle.std.proofs.Common.{◌≡◌, Option, ℕ, drop}
 use Rattle.reql_hall.specs.Rooms.{Sits}
-use Rattle.reql_story.specs.Requests.{Answer}
-use Rattle.reql_story.specs.Books.{Books, closed}
-use Rattle.reql_story.specs.Tasks.{Talk, Settled, close}
-use Rattle.reql_talk.specs.Meant.{arms_of}
+use Rattle.reql_session_spec.specs.Requests.{Answer}
+use Rattle.reql_session_spec.specs.Books.{Books, closed}
+use Rattle.reql_session_spec.specs.Tasks.{Talk, Settled, close}
+use Rattle.reql_session_api.specs.Meant.{arms_of}
 use Rattle.reql_desk_moves.specs.Steps.{Steps}
 use Rattle.reql_desk_moves.proofs.arms.close_arms.Given as goal
 

@@ -1,5 +1,5 @@
 use Rattle.std.proofs.Common.{◌<◌, ◌≤◌, arith}
-use Rattle.reql_story.specs.Tasks.{Settled, Drops}
+use Rattle.reql_session_spec.specs.Tasks.{Settled, Drops}
 use Rattle.reql_desk_moves.proofs.Closings.{ended_none, settled_all, dropped_all}
 use Rattle.reql_desk_moves.proofs.arms.end_arms.Goals as goal
 

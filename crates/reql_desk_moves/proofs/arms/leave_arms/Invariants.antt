@@ -1,7 +1,7 @@
 use Rattle.std.proofs.Common.{drop}
 use Rattle.reql_hall.specs.Rooms.{Sits}
-use Rattle.reql_story.specs.Tasks.{Talk}
-use Rattle.reql_talk.specs.Meant.{arms_of}
+use Rattle.reql_session_spec.specs.Tasks.{Talk}
+use Rattle.reql_session_api.specs.Meant.{arms_of}
 use Rattle.reql_desk_moves.proofs.Closings.{Left}
 use Rattle.reql_desk_moves.proofs.arms.leave_arms.Given as goal
 

@@ -1,9 +1,9 @@
 use Rattle.std.proofs.Common.{◌≡◌, ◌≤◌, Some, length}
 use Rattle.std.specs.Prelude.{vec_capacity}
 use Rattle.reql_hall.specs.Rooms.{Sits}
-use Rattle.reql_story.specs.Books.{Books, Open, feed_of}
-use Rattle.reql_story.specs.Tasks.{Talk}
-use Rattle.reql_talk.specs.Meant.{arms_of}
+use Rattle.reql_session_spec.specs.Books.{Books, Open, feed_of}
+use Rattle.reql_session_spec.specs.Tasks.{Talk}
+use Rattle.reql_session_api.specs.Meant.{arms_of}
 use Rattle.reql_desk_moves.proofs.Visits.{VisitAt}
 use Rattle.reql_desk_moves.proofs.taking.visit_arms.Given as goal
 

@@ -1,15 +1,15 @@
 use Rattle.std.proofs.Common.{◌≡◌, ◌∙◌, sym, ap, arith, rules, Ok, Err, map, length}
 use Rattle.reql_datum.specs.View.{plain}
 use Rattle.reql_term.specs.View.{form_of}
-use Rattle.reql_value.specs.Meaning.{sense}
-use Rattle.reql_value.specs.Sense.{options}
-use Rattle.reql_value.specs.Table.{rule_of}
+use Rattle.reql_value_spec.specs.Meaning.{sense}
+use Rattle.reql_value_spec.specs.Sense.{options}
+use Rattle.reql_value_spec.specs.Table.{rule_of}
 use Rattle.reql_operand.specs.Seen.{meant, shown, all_chosen}
 use Rattle.reql_operand.specs.Tables.{seen}
-use Rattle.reql_sense.specs.Bound.{bound, listed, optional}
-use Rattle.reql_sense.specs.Ways.{chosen}
-use Rattle.reql_sense.proofs.Objects.{chosen_rising}
-use Rattle.reql_sense.proofs.Senses.{call_function, given_function, late_under}
+use Rattle.reql_term_analysis.specs.Bound.{bound, listed, optional}
+use Rattle.reql_term_analysis.specs.Ways.{chosen}
+use Rattle.reql_term_analysis.proofs.Objects.{chosen_rising}
+use Rattle.reql_term_analysis.proofs.Senses.{call_function, given_function, late_under}
 use Rattle.reql_eval.proofs.Terms.{named_rest}
 use Rattle.reql_eval.proofs.Ways.{gives_as, array_is, taking_is, taking_ways, lazy_is, lazy_ways, no_default, first_key, other_count}
 use Rattle.reql_eval.proofs.cycle.+eval.Goals.{eval_default-in_default-via-then-terms-lt2, eval_default-in_default-via-else-terms-lt2+else-terms-lt3}

@@ -2,11 +2,11 @@ use Rattle.std.proofs.Common.{◌≡◌, ◌+◌, ◌-◌, ◌*◌, ◌++◌, le
 use Rattle.reql_datum.specs.Answer.{◌>>=◌}
 use Rattle.reql_term.specs.Form.{weight, fields_weight}
 use Rattle.reql_term.specs.View.{form_of}
-use Rattle.reql_value.specs.Sense.{options}
+use Rattle.reql_value_spec.specs.Sense.{options}
 use Rattle.reql_operand.specs.Seen.{all_chosen}
 use Rattle.reql_operand.specs.Tables.{seen}
-use Rattle.reql_sense.specs.Bound.{bound, optional, all_weight}
-use Rattle.reql_sense.specs.Ways.{chosen}
+use Rattle.reql_term_analysis.specs.Bound.{bound, optional, all_weight}
+use Rattle.reql_term_analysis.specs.Ways.{chosen}
 use Rattle.reql_eval.proofs.cycle.+eval.Given as goal
 
 abbrev pub invariant-eval_options-loop-name : goal.invariant-eval_options-loop-name

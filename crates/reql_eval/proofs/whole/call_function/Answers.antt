@@ -1,7 +1,7 @@
 use Rattle.std.proofs.Common.{map}
 use Rattle.reql_datum.specs.View.{plain}
 use Rattle.reql_term.specs.View.{form_of}
-use Rattle.reql_value.specs.Meaning.{sense}
+use Rattle.reql_value_spec.specs.Meaning.{sense}
 use Rattle.reql_operand.specs.Seen.{meant}
 use Rattle.reql_operand.specs.Tables.{seen}
 use Rattle.reql_eval.proofs.Ways.{gives_as, function_is}

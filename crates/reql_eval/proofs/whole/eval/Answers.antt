@@ -1,8 +1,8 @@
 use Rattle.reql_term.specs.View.{form_of}
-use Rattle.reql_value.specs.Meaning.{sense}
-use Rattle.reql_value.specs.Sense.{value}
+use Rattle.reql_value_spec.specs.Meaning.{sense}
+use Rattle.reql_value_spec.specs.Sense.{value}
 use Rattle.reql_operand.specs.Tables.{seen}
-use Rattle.reql_sense.specs.Bound.{bound}
+use Rattle.reql_term_analysis.specs.Bound.{bound}
 use Rattle.reql_eval.proofs.whole.eval.Goals as goal
 
 pub returns : goal.returns

@@ -1,6 +1,6 @@
 use Rattle.std.proofs.Common.{◌≡◌, ◌++◌, map, drop}
 use Rattle.reql_datum.specs.View.{plain}
-use Rattle.reql_feed_law.specs.Feeds.{opened_from}
+use Rattle.reql_feed_spec.specs.Feeds.{opened_from}
 use Rattle.reql_feed_limit.proofs.printing.opening_items.Given as goal
 
 abbrev pub invariant-loop-element : goal.invariant-loop-element

@@ -1,5 +1,5 @@
 use Rattle.std.proofs.Common.{◌≡◌, ◌++◌, ◌-◌, length, drop}
-use Rattle.reql_feed_law.specs.Feeds.{opened_from}
+use Rattle.reql_feed_spec.specs.Feeds.{opened_from}
 use Rattle.reql_feed_range.specs.Printed.{shows}
 use Rattle.reql_feed_range.proofs.opening.openings.Given as goal
 

@@ -1,6 +1,6 @@
 use Rattle.std.proofs.Common.{◌≡◌, ◌++◌, ◌-◌, length, drop}
 use Rattle.std.specs.List.{flat_map, zip}
-use Rattle.reql_feed_law.specs.Value.{contribution}
+use Rattle.reql_feed_spec.specs.Value.{contribution}
 use Rattle.reql_feed_read.specs.Follows.{shape_of}
 use Rattle.reql_feed_range.proofs.opening.parts_of.Given as goal
 

@@ -1,5 +1,5 @@
 use Rattle.std.proofs.Common.{sym, ap, ◌∙◌}
-use Rattle.reql_feed_law.specs.Kept.{is_shape}
+use Rattle.reql_feed_spec.specs.Kept.{is_shape}
 use Rattle.reql_table.specs.Seen.{documents_of, indexes_of}
 use Rattle.reql_term.specs.View.{form_of}
 use Rattle.reql_feed_read.specs.Follows.{indexes_in}

@@ -1,5 +1,5 @@
 use Rattle.std.proofs.Common.{◌≡◌, ◌+◌, ◌*◌, ◌-◌, drop, length}
-use Rattle.reql_feed_law.specs.Kept.{are_free, fields_free}
+use Rattle.reql_feed_spec.specs.Kept.{are_free, fields_free}
 use Rattle.reql_term.specs.Form.{weight, list_weight, fields_weight, forms_of, named_of}
 use Rattle.reql_term.specs.View.{form_of}
 use Rattle.reql_feed_read.specs.Scopes.{scope_of}

@@ -1,5 +1,5 @@
 use Rattle.std.proofs.Common.{◌≡◌, ◌-◌, drop, length}
-use Rattle.reql_law.specs.Followed.{options}
+use Rattle.reql_table_spec.specs.Followed.{options}
 use Rattle.reql_term.specs.Form.{named_of}
 use Rattle.reql_feed_read.specs.Asked.{are_taken}
 use Rattle.reql_feed_read.proofs.part.are_taken.Given as goal

@@ -1,6 +1,6 @@
 use Rattle.std.proofs.Common.{drop}
 use Rattle.reql_datum.specs.View.{plain}
-use Rattle.reql_law.specs.Followed.{closed_value}
+use Rattle.reql_table_spec.specs.Followed.{closed_value}
 use Rattle.reql_rules.specs.Lists.{each}
 use Rattle.reql_term.specs.View.{form_of}
 use Rattle.reql_feed_read.proofs.Constants.{constant_more}

@@ -1,6 +1,6 @@
 use Rattle.std.proofs.Common.{◌≡◌, ◌-◌, ◌++◌, drop, length, Ok}
 use Rattle.reql_datum.specs.Answer.{◌>>=◌}
-use Rattle.reql_law.specs.Followed.{closed_value}
+use Rattle.reql_table_spec.specs.Followed.{closed_value}
 use Rattle.reql_rules.specs.Lists.{each}
 use Rattle.reql_feed_read.proofs.source.constants.Given as goal
 

@@ -1,5 +1,5 @@
 use Rattle.std.proofs.Common.{◌≡◌, drop}
-use Rattle.reql_table_machine.specs.Feeds.{find_feed}
+use Rattle.reql_table_machine_spec.specs.Feeds.{find_feed}
 use Rattle.reql_feeds.specs.Keeps.{feeds_of}
 use Rattle.reql_feeds.specs.Seen.{all_sized}
 use Rattle.reql_feeds.proofs.finding.place_of.Given as goal

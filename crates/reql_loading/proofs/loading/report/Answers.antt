@@ -1,6 +1,6 @@
 use Rattle.std.proofs.Common.{map, subst, ap, arith}
 use Rattle.std.specs.Prelude.{slice_index_or}
-use Rattle.reql_law.specs.Limits.{usual_limits}
+use Rattle.reql_table_spec.specs.Limits.{usual_limits}
 use Rattle.reql_core.specs.Core.{state_of}
 use Rattle.reql_open_feed.specs.Open.{held_in}
 use Rattle.reql_load.specs.Script.{script_of}

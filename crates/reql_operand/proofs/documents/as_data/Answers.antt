@@ -1,6 +1,6 @@
 use Rattle.std.proofs.Common.{rules}
 use Rattle.reql_datum.specs.View.{plain}
-use Rattle.reql_value.specs.Wanted.{as_datum}
+use Rattle.reql_value_spec.specs.Wanted.{as_datum}
 use Rattle.reql_operand.specs.Seen.{shown}
 use Rattle.reql_operand.proofs.Steps.{each_step, each_fails, each_done}
 use Rattle.reql_operand.proofs.documents.as_data.Goals as goal

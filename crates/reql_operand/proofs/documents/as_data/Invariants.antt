@@ -1,8 +1,8 @@
 use Rattle.std.proofs.Common.{◌≡◌, ◌++◌, drop, map, Ok}
 use Rattle.reql_datum.specs.Answer.{◌>>=◌}
 use Rattle.reql_rules.specs.Lists.{each}
-use Rattle.reql_value.specs.Wanted.{as_datum}
-use Rattle.reql_value.specs.World.{World as Seen}
+use Rattle.reql_value_spec.specs.Wanted.{as_datum}
+use Rattle.reql_value_spec.specs.World.{World as Seen}
 use Rattle.reql_operand.specs.Seen.{shown}
 use Rattle.reql_operand.proofs.documents.as_data.Given as goal
 

@@ -1,7 +1,7 @@
 use Rattle.std.proofs.Common.{◌≡◌, ◌++◌, take, drop, map, Ok}
 use Rattle.reql_datum.specs.Answer.{◌>>=◌}
 use Rattle.reql_rules.specs.Lists.{each}
-use Rattle.reql_value.specs.Sequenced.{sized_group}
+use Rattle.reql_value_spec.specs.Sequenced.{sized_group}
 use Rattle.reql_operand.specs.Seen.{group}
 use Rattle.reql_operand.proofs.limits.all_short.Given as goal
 

@@ -1,7 +1,7 @@
 use Rattle.std.proofs.Common.{◌≡◌, ◌+◌, ◌*◌, ◌-◌, length, drop}
 use Rattle.reql_datum.specs.Plain.{pairs_of, weight, members_weight}
 use Rattle.reql_datum.specs.View.{plain}
-use Rattle.reql_value.specs.Matching.{match_all}
+use Rattle.reql_value_spec.specs.Matching.{match_all}
 use Rattle.reql_operand.proofs.matching.+matching.Given as goal
 
 abbrev pub decreases-matches : goal.decreases-matches

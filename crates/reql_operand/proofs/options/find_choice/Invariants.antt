@@ -1,6 +1,6 @@
 use Rattle.std.proofs.Common.{◌≡◌, drop, map}
 use Rattle.reql_datum.specs.Members.{find}
-use Rattle.reql_value.specs.World.{World}
+use Rattle.reql_value_spec.specs.World.{World}
 use Rattle.reql_operand.specs.Seen.{choice}
 use Rattle.reql_operand.proofs.options.find_choice.Given as goal
 

@@ -1,5 +1,5 @@
 use Rattle.std.proofs.Common.{◌≡◌, drop, map}
-use Rattle.reql_value.specs.World.{view_in}
+use Rattle.reql_value_spec.specs.World.{view_in}
 use Rattle.reql_operand.specs.Tables.{slotted}
 use Rattle.reql_operand.proofs.world.table_at.Given as goal
 

@@ -1,6 +1,6 @@
 use Rattle.std.proofs.Common.{◌≡◌, ◌-◌, drop, length}
 use Rattle.reql_term.specs.Form.{forms_of}
-use Rattle.reql_plan_law.specs.Course.{any_command}
+use Rattle.reql_plan_spec.specs.Course.{any_command}
 use Rattle.reql_plan.proofs.carrying.any_command.Given as goal
 
 abbrev pub invariant-loop-term : goal.invariant-loop-term

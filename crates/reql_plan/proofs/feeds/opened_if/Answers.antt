@@ -1,9 +1,9 @@
 use Rattle.std.proofs.Common.{map, ◌∷◌, ◌++◌, []}
-use Rattle.reql_law.specs.Replies.{told_of}
-use Rattle.reql_telling.specs.Seen.{opened as seen}
-use Rattle.reql_held.specs.Seen.{held}
-use Rattle.reql_feeding.specs.Seen.{asked}
-use Rattle.reql_stages.specs.Rest.{feeds_rest}
+use Rattle.reql_table_spec.specs.Replies.{told_of}
+use Rattle.reql_plan_results.specs.Seen.{opened as seen}
+use Rattle.reql_plan_context.specs.Seen.{held}
+use Rattle.reql_plan_changes.specs.Seen.{asked}
+use Rattle.reql_plan_state.specs.Rest.{feeds_rest}
 use Rattle.reql_plan.proofs.Arms.{if_saved}
 use Rattle.reql_plan.proofs.feeds.opened_if.Goals as goal
 

@@ -1,7 +1,7 @@
 use Rattle.std.proofs.Common.{map}
-use Rattle.reql_telling.specs.Seen.{opened as seen}
-use Rattle.reql_held.specs.Seen.{held}
-use Rattle.reql_feeding.specs.Seen.{asked}
+use Rattle.reql_plan_results.specs.Seen.{opened as seen}
+use Rattle.reql_plan_context.specs.Seen.{held}
+use Rattle.reql_plan_changes.specs.Seen.{asked}
 use Rattle.reql_plan.proofs.Arms.{next_feed}
 use Rattle.reql_plan.proofs.feeds.subscribe.Goals as goal
 

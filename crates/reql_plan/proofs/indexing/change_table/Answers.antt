@@ -1,11 +1,11 @@
 use Rattle.reql_term.specs.Form.{forms_of, named_of}
-use Rattle.reql_held.specs.Seen.{held}
-use Rattle.reql_plan_law.specs.declared.parts.Commanded.{Commanded}
-use Rattle.reql_plan_law.specs.Commands.{table_command, cmd_of}
-use Rattle.reql_plan_law.specs.Course.{reply_heard, table_said, order_of}
-use Rattle.reql_plan_law.specs.Move.{run}
-use Rattle.reql_plan_law.specs.Request.{ends, asks}
-use Rattle.reql_stages.proofs.Turns.{goes_by}
+use Rattle.reql_plan_context.specs.Seen.{held}
+use Rattle.reql_plan_spec.specs.declared.parts.Commanded.{Commanded}
+use Rattle.reql_plan_spec.specs.Commands.{table_command, cmd_of}
+use Rattle.reql_plan_spec.specs.Course.{reply_heard, table_said, order_of}
+use Rattle.reql_plan_spec.specs.Move.{run}
+use Rattle.reql_plan_spec.specs.Request.{ends, asks}
+use Rattle.reql_plan_state.proofs.Turns.{goes_by}
 use Rattle.reql_plan.proofs.indexing.change_table.Goals as goal
 
 pub returns-in-Ok : goal.returns-in-Ok

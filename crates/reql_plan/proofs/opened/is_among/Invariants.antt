@@ -1,6 +1,6 @@
 use Rattle.std.proofs.Common.{◌≡◌, ◌-◌, drop, length, map}
-use Rattle.reql_telling.specs.Seen.{opened}
-use Rattle.reql_plan_law.specs.Course.{is_among}
+use Rattle.reql_plan_results.specs.Seen.{opened}
+use Rattle.reql_plan_spec.specs.Course.{is_among}
 use Rattle.reql_plan.proofs.opened.is_among.Given as goal
 
 abbrev pub invariant-loop-known : goal.invariant-loop-known

@@ -1,5 +1,5 @@
 use Rattle.reql_term.specs.View.{form_of}
-use Rattle.reql_stages.specs.Rest.{moment_rest}
+use Rattle.reql_plan_state.specs.Rest.{moment_rest}
 use Rattle.reql_plan.proofs.Moments.{at_width, in_range}
 use Rattle.reql_plan.proofs.opening.in_range.Goals as goal
 

@@ -1,6 +1,6 @@
 use Rattle.std.proofs.Common.{map}
-use Rattle.reql_telling.specs.Seen.{arm, item}
-use Rattle.reql_talk.specs.Meant.{arms_of}
+use Rattle.reql_plan_results.specs.Seen.{arm, item}
+use Rattle.reql_session_api.specs.Meant.{arms_of}
 use Rattle.reql_planner.proofs.Items.{fed}
 use Rattle.reql_planner.proofs.answering.fed.Goals as goal
 

@@ -1,5 +1,5 @@
 use Rattle.std.proofs.Common.{◌≡◌, map, take}
-use Rattle.reql_telling.specs.Seen.{item}
+use Rattle.reql_plan_results.specs.Seen.{item}
 use Rattle.reql_planner.specs.Items.{bare_of, bare_in}
 use Rattle.reql_planner.proofs.listing.items_of.Given as goal
 

@@ -1,6 +1,6 @@
 use Rattle.std.proofs.Common.{◌≡◌, ◌++◌, ◌-◌, drop, length}
 use Rattle.reql_term.specs.Form.{forms_of}
-use Rattle.reql_plan_law.specs.Reads.{arms_read}
+use Rattle.reql_plan_spec.specs.Reads.{arms_read}
 use Rattle.reql_reads.proofs.followed.add_arms.Given as goal
 
 abbrev pub decreases-loop-term : goal.decreases-loop-term

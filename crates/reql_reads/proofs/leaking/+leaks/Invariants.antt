@@ -1,7 +1,7 @@
 use Rattle.std.proofs.Common.{◌≡◌, ◌+◌, ◌*◌, ◌-◌, drop, length}
 use Rattle.reql_term.specs.Form.{weight, list_weight, fields_weight, forms_of, named_of}
 use Rattle.reql_term.specs.View.{form_of}
-use Rattle.reql_plan_law.specs.Reads.{all_leak, named_leak}
+use Rattle.reql_plan_spec.specs.Reads.{all_leak, named_leak}
 use Rattle.reql_reads.proofs.leaking.+leaks.Given as goal
 
 abbrev pub decreases-leaks_in : goal.decreases-leaks_in

@@ -1,8 +1,8 @@
 use Rattle.std.proofs.Common.{◌≡◌, ◌+◌, ◌*◌, ◌-◌, drop, length}
 use Rattle.reql_term.specs.Form.{weight, list_weight, fields_weight, forms_of, named_of}
 use Rattle.reql_term.specs.View.{form_of}
-use Rattle.reql_write_law.specs.Selecting.{slots_of, slots_named}
-use Rattle.reql_plan_law.specs.Reads.{is_any}
+use Rattle.reql_write_spec.specs.Selecting.{slots_of, slots_named}
+use Rattle.reql_plan_spec.specs.Reads.{is_any}
 use Rattle.reql_reads.proofs.leaking.+slot.Given as goal
 
 abbrev pub decreases-has_slot : goal.decreases-has_slot

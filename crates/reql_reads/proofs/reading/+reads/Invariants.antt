@@ -1,7 +1,7 @@
 use Rattle.std.proofs.Common.{◌≡◌, ◌++◌, ◌+◌, ◌*◌, ◌-◌, drop, length}
 use Rattle.reql_term.specs.Form.{weight, list_weight, fields_weight, forms_of, named_of}
 use Rattle.reql_term.specs.View.{form_of}
-use Rattle.reql_plan_law.specs.Reads.{all_reads, named_reads}
+use Rattle.reql_plan_spec.specs.Reads.{all_reads, named_reads}
 use Rattle.reql_reads.proofs.reading.+reads.Given as goal
 
 abbrev pub decreases-add_reads : goal.decreases-add_reads

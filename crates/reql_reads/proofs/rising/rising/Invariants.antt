@@ -1,5 +1,5 @@
 use Rattle.std.proofs.Common.{◌≡◌, ◌≤◌, drop, length}
-use Rattle.reql_plan_law.specs.Reads.{rising}
+use Rattle.reql_plan_spec.specs.Reads.{rising}
 use Rattle.reql_reads.proofs.rising.rising.Given as goal
 
 abbrev pub decreases-loop-place : goal.decreases-loop-place

@@ -1,5 +1,5 @@
 use Rattle.std.proofs.Common.{◌≡◌, ◌++◌, ◌-◌, drop, length}
-use Rattle.reql_plan_law.specs.Reads.{with_slot}
+use Rattle.reql_plan_spec.specs.Reads.{with_slot}
 use Rattle.reql_reads.proofs.rising.with_slot.Given as goal
 
 abbrev pub decreases-loop-place : goal.decreases-loop-place

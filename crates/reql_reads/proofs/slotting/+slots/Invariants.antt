@@ -1,7 +1,7 @@
 use Rattle.std.proofs.Common.{◌≡◌, ◌++◌, ◌+◌, ◌*◌, ◌-◌, drop, length}
 use Rattle.reql_term.specs.Form.{weight, list_weight, fields_weight, forms_of, named_of}
 use Rattle.reql_term.specs.View.{form_of}
-use Rattle.reql_write_law.specs.Selecting.{slots_of, slots_named}
+use Rattle.reql_write_spec.specs.Selecting.{slots_of, slots_named}
 use Rattle.reql_reads.proofs.slotting.+slots.Given as goal
 
 abbrev pub decreases-add_slots : goal.decreases-add_slots

@@ -1,5 +1,5 @@
 use Rattle.std.proofs.Common.{◌∙◌, ap, replicate}
-use Rattle.reql_law.specs.Machine.{unused}
+use Rattle.reql_table_spec.specs.Machine.{unused}
 use Rattle.reql_run.proofs.opening.begin.Goals as goal
 
 pub returns-clause-engines : goal.returns-clause-engines

@@ -1,5 +1,5 @@
 use Rattle.std.proofs.Common.{◌≡◌, ◌≤◌, map, replicate}
-use Rattle.reql_law.specs.Machine.{unused}
+use Rattle.reql_table_spec.specs.Machine.{unused}
 use Rattle.reql_core.specs.Core.{state_of}
 use Rattle.reql_run.proofs.opening.engines.Given as goal
 

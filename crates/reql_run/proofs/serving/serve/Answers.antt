@@ -1,9 +1,9 @@
 use Rattle.std.proofs.Common.{arith, ◌∙◌, ap, map, replicate, IfOk}
 use Rattle.std.proofs.lemmas.Grind.{common_steps}
 use Rattle.reql_catalog.specs.Machine.{opening}
-use Rattle.reql_law.specs.Limits.{usual_limits}
-use Rattle.reql_law.specs.Machine.{unused}
-use Rattle.reql_told.specs.Told.{keys_by, talk}
+use Rattle.reql_table_spec.specs.Limits.{usual_limits}
+use Rattle.reql_table_spec.specs.Machine.{unused}
+use Rattle.reql_query_session_spec.specs.Told.{keys_by, talk}
 use Rattle.reql_core.specs.Core.{state_of}
 use Rattle.reql_open_feed.specs.Open.{held_in}
 use Rattle.reql_serve.specs.Serving.{ServesOne}

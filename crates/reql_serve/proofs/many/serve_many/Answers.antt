@@ -9,8 +9,8 @@ use Rattle.reql_shared.specs.Machine.{replay}
 use Rattle.reql_shared.specs.Sight.{Object, Closing}
 use Rattle.reql_catalog.specs.Machine.{catalogue_machine}
 use Rattle.reql_catalog.specs.declared.catalog.Catalog.{Catalog}
-use Rattle.reql_law.specs.declared.command.Order.{Order}
-use Rattle.reql_law.specs.Machine.{State}
+use Rattle.reql_table_spec.specs.declared.command.Order.{Order}
+use Rattle.reql_table_spec.specs.Machine.{State}
 use Rattle.reql_hall.specs.Rooms.{Rooms, unused_desk}
 use Rattle.reql_serve.specs.Working.{IsThere}
 use Rattle.reql_serve.proofs.Crew.{they_sit, they_are_there, their_desks_sit, they_serve}

@@ -5,13 +5,13 @@ use Rattle.reql_shared.specs.Machine.{replay}
 use Rattle.reql_shared.specs.Sight.{Object, Closing}
 use Rattle.reql_catalog.specs.Machine.{catalogue_machine}
 use Rattle.reql_catalog.specs.declared.catalog.Catalog.{Catalog}
-use Rattle.reql_law.specs.Machine.{State}
-use Rattle.reql_law.specs.declared.command.Order.{Order}
+use Rattle.reql_table_spec.specs.Machine.{State}
+use Rattle.reql_table_spec.specs.declared.command.Order.{Order}
 use Rattle.reql_hall.specs.Rooms.{Rooms, Sits, LearnsAll, histories_of, unused_desk}
-use Rattle.reql_story.specs.Books.{no_books}
-use Rattle.reql_story.specs.Tasks.{Talk}
-use Rattle.reql_talk.specs.World.{AtWork, IsServed}
-use Rattle.reql_shelf.specs.Kept.{books_of}
+use Rattle.reql_session_spec.specs.Books.{no_books}
+use Rattle.reql_session_spec.specs.Tasks.{Talk}
+use Rattle.reql_session_api.specs.World.{AtWork, IsServed}
+use Rattle.reql_open_cursors.specs.Kept.{books_of}
 use Rattle.reql_session.specs.Settling.{working}
 use Rattle.reql_serve.proofs.Desks.{one_left, alone, all_of_one, first_of, same_count, keeps_nothing}
 use Rattle.reql_serve.proofs.one.serve_one.Goals as goal

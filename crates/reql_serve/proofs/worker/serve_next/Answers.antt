@@ -1,7 +1,7 @@
 use Rattle.std.proofs.Common.{◌≡◌, ◌≤◌, length, sym, ap, subst, ◌∙◌, arith}
 use Rattle.reql_hall.specs.Rooms.{Sits}
-use Rattle.reql_talk.specs.World.{AtWork}
-use Rattle.reql_shelf.specs.Kept.{books_of}
+use Rattle.reql_session_api.specs.World.{AtWork}
+use Rattle.reql_open_cursors.specs.Kept.{books_of}
 use Rattle.reql_serve.proofs.Desks.{keeps_nothing}
 use Rattle.reql_serve.proofs.Working.{turned}
 use Rattle.reql_serve.proofs.worker.serve_next.Goals as goal

@@ -1,7 +1,7 @@
 use Rattle.std.proofs.Common.{◌≡◌, Some, IfOk, refl, subst, ◌∙◌}
-use Rattle.reql_story.specs.Requests.{Failed, stamped}
-use Rattle.reql_story.specs.Bodies.{body}
-use Rattle.reql_story.specs.Tasks.{fitted}
+use Rattle.reql_session_spec.specs.Requests.{Failed, stamped}
+use Rattle.reql_session_spec.specs.Bodies.{body}
+use Rattle.reql_session_spec.specs.Tasks.{fitted}
 use Rattle.reql_session.proofs.answers.write_failed.Goals as goal
 
 pub returns : goal.returns

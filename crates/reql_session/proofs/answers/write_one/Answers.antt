@@ -1,8 +1,8 @@
 use Rattle.std.proofs.Common.{◌≡◌, IfOk, refl, subst, ◌∙◌}
 use Rattle.reql_datum.specs.View.{plain}
-use Rattle.reql_story.specs.Requests.{Atom, stamped}
-use Rattle.reql_story.specs.Bodies.{body}
-use Rattle.reql_story.specs.Tasks.{fitted}
+use Rattle.reql_session_spec.specs.Requests.{Atom, stamped}
+use Rattle.reql_session_spec.specs.Bodies.{body}
+use Rattle.reql_session_spec.specs.Tasks.{fitted}
 use Rattle.reql_session.proofs.answers.write_one.Goals as goal
 
 pub returns : goal.returns

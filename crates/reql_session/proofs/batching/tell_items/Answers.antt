@@ -1,9 +1,9 @@
 use Rattle.std.proofs.Common.{Some, map, take, drop, length, refl, sym, ap, subst, ◌∙◌}
-use Rattle.reql_story.specs.Requests.{Batch, stamped}
-use Rattle.reql_story.specs.Books.{with_left}
-use Rattle.reql_story.specs.Tasks.{cut_to}
-use Rattle.reql_talk.specs.Meant.{shown_of}
-use Rattle.reql_shelf.specs.Kept.{books_of, feed_kept}
+use Rattle.reql_session_spec.specs.Requests.{Batch, stamped}
+use Rattle.reql_session_spec.specs.Books.{with_left}
+use Rattle.reql_session_spec.specs.Tasks.{cut_to}
+use Rattle.reql_session_api.specs.Meant.{shown_of}
+use Rattle.reql_open_cursors.specs.Kept.{books_of, feed_kept}
 use Rattle.reql_session.specs.Keeping.{Keeps}
 use Rattle.reql_session.specs.Settling.{working}
 use Rattle.reql_session.proofs.Tokens.{found_is, keeps_left}

@@ -1,8 +1,8 @@
 use Rattle.std.proofs.Common.{◌≡◌, map, length, [], ◌∷◌, ◌-◌, sym, ap, subst}
 use Rattle.reql_datum.specs.View.{plain}
 use Rattle.reql_desk_moves.specs.Steps.{put_points}
-use Rattle.reql_story.specs.Tasks.{is_empty}
-use Rattle.reql_shelf.specs.Kept.{books_of}
+use Rattle.reql_session_spec.specs.Tasks.{is_empty}
+use Rattle.reql_open_cursors.specs.Kept.{books_of}
 use Rattle.reql_session.specs.Batches.{items_of}
 use Rattle.reql_session.specs.Keeping.{Keeps}
 use Rattle.reql_session.specs.Settling.{working}

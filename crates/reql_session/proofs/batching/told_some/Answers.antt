@@ -1,9 +1,9 @@
 use Rattle.std.proofs.Common.{◌≡◌, map, get_or, [], subst, ◌∙◌, arith}
 use Rattle.reql_datum.specs.View.{plain}
-use Rattle.reql_story.specs.Tasks.{change_items}
-use Rattle.reql_talk.specs.Meant.{no_arm, shown_of}
+use Rattle.reql_session_spec.specs.Tasks.{change_items}
+use Rattle.reql_session_api.specs.Meant.{no_arm, shown_of}
 use Rattle.reql_desk_moves.specs.Steps.{put_points}
-use Rattle.reql_shelf.specs.Kept.{books_of}
+use Rattle.reql_open_cursors.specs.Kept.{books_of}
 use Rattle.reql_session.specs.Batches.{items_of}
 use Rattle.reql_session.specs.Settling.{working}
 use Rattle.reql_session.proofs.Given.{skip_at, items_lost, items_told}

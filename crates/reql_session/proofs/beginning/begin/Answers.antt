@@ -1,10 +1,10 @@
 use Rattle.std.proofs.Common.{inl, [], cond, refl, sym, ap, ◌∙◌}
-use Rattle.reql_story.specs.Requests.{Client, Compile, Waited, Info}
-use Rattle.reql_story.specs.Bodies as texts
-use Rattle.reql_story.specs.Books.{opened}
-use Rattle.reql_story.specs.Tasks.{Planning, at, begin, refuse}
-use Rattle.reql_talk.specs.Meant.{asked_of}
-use Rattle.reql_shelf.specs.Kept.{books_of}
+use Rattle.reql_session_spec.specs.Requests.{Client, Compile, Waited, Info}
+use Rattle.reql_session_spec.specs.Bodies as texts
+use Rattle.reql_session_spec.specs.Books.{opened}
+use Rattle.reql_session_spec.specs.Tasks.{Planning, at, begin, refuse}
+use Rattle.reql_session_api.specs.Meant.{asked_of}
+use Rattle.reql_open_cursors.specs.Kept.{books_of}
 use Rattle.reql_session.specs.Settling.{working}
 use Rattle.reql_session.proofs.Begun.{either_as}
 use Rattle.reql_session.proofs.Turned.{not_waiting}

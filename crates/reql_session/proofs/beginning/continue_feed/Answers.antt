@@ -1,9 +1,9 @@
 use Rattle.std.proofs.Common.{inl, [], true, false, refl, sym, ap, subst, ◌∙◌, append-nil}
-use Rattle.reql_story.specs.Requests.{Client}
-use Rattle.reql_story.specs.Bodies as texts
-use Rattle.reql_story.specs.Books.{has_token}
-use Rattle.reql_story.specs.Tasks.{tell_now, continue_feed, continue_left}
-use Rattle.reql_shelf.specs.Kept.{books_of, feed_kept}
+use Rattle.reql_session_spec.specs.Requests.{Client}
+use Rattle.reql_session_spec.specs.Bodies as texts
+use Rattle.reql_session_spec.specs.Books.{has_token}
+use Rattle.reql_session_spec.specs.Tasks.{tell_now, continue_feed, continue_left}
+use Rattle.reql_open_cursors.specs.Kept.{books_of, feed_kept}
 use Rattle.reql_session.specs.Settling.{working, Settles}
 use Rattle.reql_session.proofs.Begun.{has_left, has_none, either_as, continues_with}
 use Rattle.reql_session.proofs.beginning.continue_feed.Goals as goal

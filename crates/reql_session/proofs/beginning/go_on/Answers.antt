@@ -1,7 +1,7 @@
 use Rattle.std.proofs.Common.{refl, sym, ap, ◌∙◌}
-use Rattle.reql_story.specs.Books.{cursor_of}
-use Rattle.reql_story.specs.Tasks.{continue_feed, continue_on}
-use Rattle.reql_shelf.specs.Kept.{books_of}
+use Rattle.reql_session_spec.specs.Books.{cursor_of}
+use Rattle.reql_session_spec.specs.Tasks.{continue_feed, continue_on}
+use Rattle.reql_open_cursors.specs.Kept.{books_of}
 use Rattle.reql_session.specs.Settling.{working}
 use Rattle.reql_session.proofs.Begun.{of_some, of_none, either_as}
 use Rattle.reql_session.proofs.beginning.go_on.Goals as goal

@@ -1,5 +1,5 @@
 use Rattle.std.proofs.Common.{refl}
-use Rattle.reql_story.specs.Requests.{Compile}
+use Rattle.reql_session_spec.specs.Requests.{Compile}
 use Rattle.reql_session.proofs.Begun.{refuses_quietly, refuses}
 use Rattle.reql_session.proofs.beginning.refuse_compile.Goals as goal
 

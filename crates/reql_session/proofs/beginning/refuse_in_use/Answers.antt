@@ -1,6 +1,6 @@
 use Rattle.std.proofs.Common.{refl}
-use Rattle.reql_story.specs.Requests.{Client}
-use Rattle.reql_story.specs.Bodies as texts
+use Rattle.reql_session_spec.specs.Requests.{Client}
+use Rattle.reql_session_spec.specs.Bodies as texts
 use Rattle.reql_session.proofs.Begun.{refuses_quietly, refuses}
 use Rattle.reql_session.proofs.beginning.refuse_in_use.Goals as goal
 

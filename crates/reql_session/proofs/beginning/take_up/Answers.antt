@@ -1,5 +1,5 @@
 use Rattle.std.proofs.Common.{false}
-use Rattle.reql_shelf.specs.Kept.{books_of}
+use Rattle.reql_open_cursors.specs.Kept.{books_of}
 use Rattle.reql_session.specs.Settling.{working}
 use Rattle.reql_session.proofs.Turned.{read_or_not}
 use Rattle.reql_session.proofs.beginning.take_up.Goals as goal

@@ -1,5 +1,5 @@
 use Rattle.std.proofs.Common.{None, refl}
-use Rattle.reql_story.specs.Tasks.{cut_to}
+use Rattle.reql_session_spec.specs.Tasks.{cut_to}
 use Rattle.reql_session.proofs.Begun.{fits_cut, fits_whole}
 use Rattle.reql_session.proofs.Settled.{settles_so, settles_wanted}
 use Rattle.reql_session.proofs.beginning.tell_fixed.Goals as goal

@@ -1,10 +1,10 @@
 use Rattle.std.proofs.Common.{◌≡◌, None, IfOk, take, length, sym, ap, subst, ◌∙◌}
 use Rattle.std.specs.Prelude.{nat_le}
-use Rattle.reql_story.specs.Requests.{Last, Part}
-use Rattle.reql_story.specs.Books.{Cursor}
-use Rattle.reql_story.specs.Bodies.{body}
-use Rattle.reql_shelf.specs.Kept.{books_of, cursor_kept}
-use Rattle.reql_shelf.proofs.Places.{same_some}
+use Rattle.reql_session_spec.specs.Requests.{Last, Part}
+use Rattle.reql_session_spec.specs.Books.{Cursor}
+use Rattle.reql_session_spec.specs.Bodies.{body}
+use Rattle.reql_open_cursors.specs.Kept.{books_of, cursor_kept}
+use Rattle.reql_open_cursors.proofs.Places.{same_some}
 use Rattle.reql_session.proofs.Tokens.{cursor_token}
 use Rattle.reql_session.proofs.Batched.{cursor_last, cursor_part}
 use Rattle.reql_session.proofs.continuing.continue_cursor.Goals as goal

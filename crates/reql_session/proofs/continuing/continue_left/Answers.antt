@@ -1,9 +1,9 @@
 use Rattle.std.proofs.Common.{inl, inr, [], None, take, drop, length, refl, sym, ap, subst, ◌∙◌}
-use Rattle.reql_story.specs.Requests.{Batch}
-use Rattle.reql_story.specs.Books.{with_left}
-use Rattle.reql_story.specs.Tasks.{cut_to}
-use Rattle.reql_talk.specs.Meant.{arms_of}
-use Rattle.reql_shelf.specs.Kept.{books_of, feed_kept}
+use Rattle.reql_session_spec.specs.Requests.{Batch}
+use Rattle.reql_session_spec.specs.Books.{with_left}
+use Rattle.reql_session_spec.specs.Tasks.{cut_to}
+use Rattle.reql_session_api.specs.Meant.{arms_of}
+use Rattle.reql_open_cursors.specs.Kept.{books_of, feed_kept}
 use Rattle.reql_session.specs.Keeping.{Keeps}
 use Rattle.reql_session.specs.Settling.{working}
 use Rattle.reql_session.proofs.Tokens.{feed_token, found_is, keeps_left, off_alone}

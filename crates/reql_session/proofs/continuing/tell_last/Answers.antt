@@ -1,8 +1,8 @@
 use Rattle.std.proofs.Common.{[], None, refl, sym, subst, ◌∙◌}
-use Rattle.reql_story.specs.Requests.{Last}
-use Rattle.reql_story.specs.Books.{closed}
-use Rattle.reql_story.specs.Tasks.{cut_to}
-use Rattle.reql_shelf.specs.Kept.{books_of}
+use Rattle.reql_session_spec.specs.Requests.{Last}
+use Rattle.reql_session_spec.specs.Books.{closed}
+use Rattle.reql_session_spec.specs.Tasks.{cut_to}
+use Rattle.reql_open_cursors.specs.Kept.{books_of}
 use Rattle.reql_session.specs.Keeping.{Keeps}
 use Rattle.reql_session.proofs.Kept.{keeps_closed}
 use Rattle.reql_session.proofs.Batched.{with_books, cursor_wants, cursor_cut, cursor_sent}

@@ -1,8 +1,8 @@
 use Rattle.std.proofs.Common.{[], drop, take, None, refl, sym, subst, ◌∙◌}
-use Rattle.reql_story.specs.Requests.{Part}
-use Rattle.reql_story.specs.Books.{with_rest}
-use Rattle.reql_story.specs.Tasks.{cut_to}
-use Rattle.reql_shelf.specs.Kept.{books_of}
+use Rattle.reql_session_spec.specs.Requests.{Part}
+use Rattle.reql_session_spec.specs.Books.{with_rest}
+use Rattle.reql_session_spec.specs.Tasks.{cut_to}
+use Rattle.reql_open_cursors.specs.Kept.{books_of}
 use Rattle.reql_session.specs.Keeping.{Keeps}
 use Rattle.reql_session.proofs.Kept.{keeps_closed}
 use Rattle.reql_session.proofs.Tokens.{keeps_rest}

@@ -1,9 +1,9 @@
 use Rattle.std.proofs.Common.{◌≤◌, ℕ, length, map, Some, None, refl, sym, ap, subst, ◌∙◌}
 use Rattle.reql_datum.specs.View.{plain}
-use Rattle.reql_story.specs.Requests as story
-use Rattle.reql_story.specs.Requests.{Atom, Last, Failed}
-use Rattle.reql_talk.specs.Meant.{answered_of, arms_of, shown_of}
-use Rattle.reql_shelf.specs.Kept.{books_of}
+use Rattle.reql_session_spec.specs.Requests as story
+use Rattle.reql_session_spec.specs.Requests.{Atom, Last, Failed}
+use Rattle.reql_session_api.specs.Meant.{answered_of, arms_of, shown_of}
+use Rattle.reql_open_cursors.specs.Kept.{books_of}
 use Rattle.reql_session.specs.Settling.{working}
 use Rattle.reql_session.specs.Ending.{seen_at}
 use Rattle.reql_session.proofs.Keeping.{still_after}

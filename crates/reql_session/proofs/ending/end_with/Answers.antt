@@ -1,6 +1,6 @@
-use Rattle.reql_story.specs.Tasks.{fitted, settle}
-use Rattle.reql_talk.specs.Meant.{arms_of}
-use Rattle.reql_shelf.specs.Kept.{books_of}
+use Rattle.reql_session_spec.specs.Tasks.{fitted, settle}
+use Rattle.reql_session_api.specs.Meant.{arms_of}
+use Rattle.reql_open_cursors.specs.Kept.{books_of}
 use Rattle.reql_session.specs.Settling.{working}
 use Rattle.reql_session.proofs.Ended.{course_ends}
 use Rattle.reql_session.proofs.ending.end_with.Goals as goal

@@ -1,7 +1,7 @@
 use Rattle.std.proofs.Common.{◌≡◌, drop}
-use Rattle.reql_story.specs.Requests.{Arm}
-use Rattle.reql_story.specs.Tasks.{others}
-use Rattle.reql_talk.specs.Meant.{arms_of}
+use Rattle.reql_session_spec.specs.Requests.{Arm}
+use Rattle.reql_session_spec.specs.Tasks.{others}
+use Rattle.reql_session_api.specs.Meant.{arms_of}
 use Rattle.reql_session.specs.Batches.{is_none_of}
 use Rattle.reql_session.proofs.gone.has_others.Given as goal
 

@@ -1,13 +1,13 @@
 use Rattle.std.proofs.Common.{◌≡◌, Some, IfOk, not, length, drop, [], true≢false, is_some, sym, ap, subst, ◌∙◌}
 use Rattle.reql_answer.specs.declared.error.ErrorType.TheVariants as errors
-use Rattle.reql_story.specs.Requests.{Arm, Failed, stamped}
-use Rattle.reql_story.specs.Books.{Open}
-use Rattle.reql_story.specs.Bodies.{body}
-use Rattle.reql_story.specs.Tasks.{fitted, others}
-use Rattle.reql_talk.specs.Meant.{arm_of, arms_of}
+use Rattle.reql_session_spec.specs.Requests.{Arm, Failed, stamped}
+use Rattle.reql_session_spec.specs.Books.{Open}
+use Rattle.reql_session_spec.specs.Bodies.{body}
+use Rattle.reql_session_spec.specs.Tasks.{fitted, others}
+use Rattle.reql_session_api.specs.Meant.{arm_of, arms_of}
 use Rattle.reql_desk_moves.specs.Steps.{put_points}
-use Rattle.reql_shelf.specs.Kept.{books_of}
-use Rattle.reql_shelf.proofs.Places.{same_some}
+use Rattle.reql_open_cursors.specs.Kept.{books_of}
+use Rattle.reql_open_cursors.proofs.Places.{same_some}
 use Rattle.reql_session.specs.Batches.{is_none_of}
 use Rattle.reql_session.specs.Settling.{working}
 use Rattle.reql_session.proofs.Tokens.{feed_token, found_is}

@@ -1,6 +1,6 @@
 use Rattle.std.proofs.Common.{Some, length, sym, subst}
 use Rattle.reql_desk_moves.specs.Acting.{AreThere}
-use Rattle.reql_shelf.specs.Kept.{books_of}
+use Rattle.reql_open_cursors.specs.Kept.{books_of}
 use Rattle.reql_session.specs.Keeping.{Keeps}
 use Rattle.reql_session.proofs.Tokens.{found_there, keeps_closed}
 use Rattle.reql_session.proofs.Given.{others_there, others_closed}

@@ -1,5 +1,5 @@
 use Rattle.reql_hall.specs.Rooms.{Sits}
-use Rattle.reql_story.specs.Tasks.{Talk}
+use Rattle.reql_session_spec.specs.Tasks.{Talk}
 use Rattle.reql_session.proofs.Left.{Left, arms_from}
 use Rattle.reql_session.proofs.leaving.leave_all.Given as goal
 

@@ -1,11 +1,11 @@
 use Rattle.std.proofs.Common.{[], map, Some, refl, sym, ap, ◌∙◌}
 use Rattle.reql_datum.specs.View.{plain}
-use Rattle.reql_story.specs.Requests.{stamped}
-use Rattle.reql_story.specs.Books.{closed, with_cursor}
-use Rattle.reql_story.specs.Tasks.{cut_to}
-use Rattle.reql_talk.specs.Meant.{arms_of}
+use Rattle.reql_session_spec.specs.Requests.{stamped}
+use Rattle.reql_session_spec.specs.Books.{closed, with_cursor}
+use Rattle.reql_session_spec.specs.Tasks.{cut_to}
+use Rattle.reql_session_api.specs.Meant.{arms_of}
 use Rattle.reql_desk_moves.specs.Steps.{after_closing, put_points}
-use Rattle.reql_shelf.specs.Kept.{books_of}
+use Rattle.reql_open_cursors.specs.Kept.{books_of}
 use Rattle.reql_session.specs.Settling.{working}
 use Rattle.reql_session.proofs.Keeping.{still_cursor, still_closed, still_after}
 use Rattle.reql_session.proofs.Opened.{course_wanted, cursor_left, part_bytes, first_told, stream_cut, stream_told, stream_unsaid}

@@ -1,5 +1,5 @@
 use Rattle.std.proofs.Common.{◌≡◌, ◌++◌, ◌-◌, drop, length}
-use Rattle.reql_story.specs.Requests.{put_point}
+use Rattle.reql_session_spec.specs.Requests.{put_point}
 use Rattle.reql_session.proofs.points.with_point.Given as goal
 
 abbrev pub decreases-loop-place : goal.decreases-loop-place

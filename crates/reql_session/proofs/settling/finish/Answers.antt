@@ -1,6 +1,6 @@
 use Rattle.std.proofs.Common.{Some}
-use Rattle.reql_story.specs.Books.{closed}
-use Rattle.reql_story.specs.Tasks.{only_tell}
+use Rattle.reql_session_spec.specs.Books.{closed}
+use Rattle.reql_session_spec.specs.Tasks.{only_tell}
 use Rattle.reql_desk_moves.proofs.Closings.{closed_twice}
 use Rattle.reql_session.proofs.Settled.{settles_closed}
 use Rattle.reql_session.proofs.settling.finish.Goals as goal

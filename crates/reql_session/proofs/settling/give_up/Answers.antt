@@ -1,7 +1,7 @@
 use Rattle.std.proofs.Common.{true, false, None, sym}
-use Rattle.reql_story.specs.Tasks.{Settled, close}
-use Rattle.reql_talk.specs.Meant.{arms_of}
-use Rattle.reql_shelf.specs.Kept.{books_of}
+use Rattle.reql_session_spec.specs.Tasks.{Settled, close}
+use Rattle.reql_session_api.specs.Meant.{arms_of}
+use Rattle.reql_open_cursors.specs.Kept.{books_of}
 use Rattle.reql_session.specs.Settling.{working}
 use Rattle.reql_session.proofs.Settled.{said_or_not}
 use Rattle.reql_session.proofs.settling.give_up.Goals as goal

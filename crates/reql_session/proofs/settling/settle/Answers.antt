@@ -1,8 +1,8 @@
 use Rattle.std.proofs.Common.{Some, sym, subst}
-use Rattle.reql_story.specs.Tasks.{Settled, close, only_tell}
-use Rattle.reql_talk.specs.Meant.{arms_of}
+use Rattle.reql_session_spec.specs.Tasks.{Settled, close, only_tell}
+use Rattle.reql_session_api.specs.Meant.{arms_of}
 use Rattle.reql_desk_moves.specs.Steps.{Steps}
-use Rattle.reql_shelf.specs.Kept.{books_of}
+use Rattle.reql_open_cursors.specs.Kept.{books_of}
 use Rattle.reql_session.proofs.Settled.{settles_closed}
 use Rattle.reql_session.proofs.settling.settle.Goals as goal
 

@@ -1,8 +1,8 @@
 use Rattle.std.proofs.Common.{None, refl, sym, subst}
-use Rattle.reql_story.specs.Tasks.{Settled, close, done}
-use Rattle.reql_talk.specs.Meant.{arms_of}
+use Rattle.reql_session_spec.specs.Tasks.{Settled, close, done}
+use Rattle.reql_session_api.specs.Meant.{arms_of}
 use Rattle.reql_desk_moves.specs.Steps.{Steps}
-use Rattle.reql_shelf.specs.Kept.{books_of}
+use Rattle.reql_open_cursors.specs.Kept.{books_of}
 use Rattle.reql_session.proofs.Settled.{settles_closed, settles_done}
 use Rattle.reql_session.proofs.settling.settle_silently.Goals as goal
 

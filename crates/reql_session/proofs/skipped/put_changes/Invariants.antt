@@ -1,9 +1,9 @@
 use Rattle.std.proofs.Common.{◌≡◌, ◌++◌, List, map, get_or}
 use Rattle.std.specs.Vec.Iter.{into_iter_items}
 use Rattle.reql_datum.specs.View.{plain}
-use Rattle.reql_story.specs.Requests.{Arm}
-use Rattle.reql_story.specs.Tasks.{change_items}
-use Rattle.reql_talk.specs.Meant.{no_arm, shown_of}
+use Rattle.reql_session_spec.specs.Requests.{Arm}
+use Rattle.reql_session_spec.specs.Tasks.{change_items}
+use Rattle.reql_session_api.specs.Meant.{no_arm, shown_of}
 use Rattle.reql_session.proofs.skipped.put_changes.Given as goal
 
 abbrev pub invariant-loop-stamp : goal.invariant-loop-stamp

@@ -1,9 +1,9 @@
 use Rattle.std.proofs.Common.{[], refl, ap, ◌∙◌}
-use Rattle.reql_story.specs.Books.{opened}
-use Rattle.reql_story.specs.Tasks.{Planning, at}
-use Rattle.reql_talk.specs.Meant.{answered_of, arms_of}
-use Rattle.reql_course.specs.Walking.{tools}
-use Rattle.reql_shelf.specs.Kept.{books_of}
+use Rattle.reql_session_spec.specs.Books.{opened}
+use Rattle.reql_session_spec.specs.Tasks.{Planning, at}
+use Rattle.reql_session_api.specs.Meant.{answered_of, arms_of}
+use Rattle.reql_plan_driver.specs.Walking.{tools}
+use Rattle.reql_open_cursors.specs.Kept.{books_of}
 use Rattle.reql_session.specs.Settling.{working}
 use Rattle.reql_session.proofs.Keeping.{still_after}
 use Rattle.reql_session.proofs.Opened.{course_wanted}

@@ -1,12 +1,12 @@
 use Rattle.std.proofs.Common.{[], Some, false, sym, ◌∙◌, subst, length}
-use Rattle.reql_story.specs.Requests.{Internal}
-use Rattle.reql_story.specs.Books.{Open}
-use Rattle.reql_story.specs.Tasks.{Stops, close, only_tell}
-use Rattle.reql_talk.specs.Meant.{arms_of}
+use Rattle.reql_session_spec.specs.Requests.{Internal}
+use Rattle.reql_session_spec.specs.Books.{Open}
+use Rattle.reql_session_spec.specs.Tasks.{Stops, close, only_tell}
+use Rattle.reql_session_api.specs.Meant.{arms_of}
 use Rattle.reql_desk_moves.specs.Acting.{AreThere}
 use Rattle.reql_desk_moves.specs.Steps.{Steps, StopsArms, after_closing}
-use Rattle.reql_shelf.specs.Kept.{books_of, feed_kept}
-use Rattle.reql_shelf.proofs.There.{there_found, there_coded}
+use Rattle.reql_open_cursors.specs.Kept.{books_of, feed_kept}
+use Rattle.reql_open_cursors.proofs.There.{there_found, there_coded}
 use Rattle.reql_session.specs.Settling.{working, Settles}
 use Rattle.reql_session.proofs.Kept.{keeps_after, keeps_as, unsome, closed_where}
 use Rattle.reql_session.proofs.Settled.{settles_closed}

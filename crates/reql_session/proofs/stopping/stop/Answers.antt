@@ -1,7 +1,7 @@
 use Rattle.std.proofs.Common.{sym, subst, ◌∙◌}
-use Rattle.reql_story.specs.Books.{cursor_of, feed_of}
-use Rattle.reql_story.specs.Tasks.{stop, stop_feed}
-use Rattle.reql_shelf.specs.Kept.{books_of}
+use Rattle.reql_session_spec.specs.Books.{cursor_of, feed_of}
+use Rattle.reql_session_spec.specs.Tasks.{stop, stop_feed}
+use Rattle.reql_open_cursors.specs.Kept.{books_of}
 use Rattle.reql_session.specs.Settling.{working, Settles}
 use Rattle.reql_session.proofs.Begun.{of_some, of_none}
 use Rattle.reql_session.proofs.Stopped.{no_more}

@@ -1,8 +1,8 @@
 use Rattle.std.proofs.Common.{[], None, refl, sym, ◌∙◌, subst}
-use Rattle.reql_story.specs.Requests.{Last}
-use Rattle.reql_story.specs.Books.{closed}
-use Rattle.reql_story.specs.Tasks.{Telling, at}
-use Rattle.reql_shelf.specs.Kept.{books_of}
+use Rattle.reql_session_spec.specs.Requests.{Last}
+use Rattle.reql_session_spec.specs.Books.{closed}
+use Rattle.reql_session_spec.specs.Tasks.{Telling, at}
+use Rattle.reql_open_cursors.specs.Kept.{books_of}
 use Rattle.reql_session.specs.Settling.{working, Settles}
 use Rattle.reql_session.proofs.Kept.{keeps_closed, keeps_as}
 use Rattle.reql_session.proofs.Settled.{settles_so, settles_want}

@@ -1,8 +1,8 @@
 use Rattle.std.proofs.Common.{[], None, Some, sym, ap, ◌∙◌}
-use Rattle.reql_story.specs.Books.{Books, feed_of}
-use Rattle.reql_story.specs.Tasks.{Telling, Stops, at, close}
-use Rattle.reql_story.specs.declared.end.End.TheVariants as ends
-use Rattle.reql_shelf.specs.Kept.{books_of}
+use Rattle.reql_session_spec.specs.Books.{Books, feed_of}
+use Rattle.reql_session_spec.specs.Tasks.{Telling, Stops, at, close}
+use Rattle.reql_session_spec.specs.declared.end.End.TheVariants as ends
+use Rattle.reql_open_cursors.specs.Kept.{books_of}
 use Rattle.reql_session.specs.Settling.{working}
 use Rattle.reql_session.proofs.Kept.{keeps_without, keeps_as}
 use Rattle.reql_session.proofs.Settled.{settles_on, settles_want, leads_so, settles_broken}

@@ -1,5 +1,5 @@
 use Rattle.std.proofs.Common.{◌+◌, ◌≤◌, true≢false, None, refl, sym, subst, length}
-use Rattle.reql_story.specs.Requests.{Internal}
+use Rattle.reql_session_spec.specs.Requests.{Internal}
 use Rattle.reql_session.proofs.Settled.{settles_so}
 use Rattle.reql_session.proofs.Short.{internal_fits}
 use Rattle.reql_session.proofs.telling.tell_internal.Goals as goal

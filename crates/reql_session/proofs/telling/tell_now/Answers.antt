@@ -1,4 +1,4 @@
-use Rattle.reql_story.specs.Tasks.{fitted}
+use Rattle.reql_session_spec.specs.Tasks.{fitted}
 use Rattle.reql_session.proofs.Settled.{settles_wanted}
 use Rattle.reql_session.proofs.telling.tell_now.Goals as goal
 

@@ -1,8 +1,8 @@
 use Rattle.std.proofs.Common.{[], length, sym, subst}
-use Rattle.reql_law.specs.Replies.{said_of}
-use Rattle.reql_story.specs.Tasks.{took_said}
+use Rattle.reql_table_spec.specs.Replies.{said_of}
+use Rattle.reql_session_spec.specs.Tasks.{took_said}
 use Rattle.reql_desk_moves.specs.Steps.{put_points, VisitsArms}
-use Rattle.reql_shelf.specs.Kept.{books_of}
+use Rattle.reql_open_cursors.specs.Kept.{books_of}
 use Rattle.reql_session.specs.Keeping.{Keeps}
 use Rattle.reql_session.specs.Settling.{working, Settles}
 use Rattle.reql_session.proofs.Tokens.{feed_token, keeps_waits}

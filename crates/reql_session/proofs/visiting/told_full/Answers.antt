@@ -1,8 +1,8 @@
 use Rattle.std.proofs.Common.{None}
 use Rattle.reql_answer.specs.declared.error.ErrorType.TheVariants as errors
-use Rattle.reql_story.specs.Requests.{Failed}
-use Rattle.reql_story.specs.Bodies as texts
-use Rattle.reql_story.specs.Tasks.{fitted}
+use Rattle.reql_session_spec.specs.Requests.{Failed}
+use Rattle.reql_session_spec.specs.Bodies as texts
+use Rattle.reql_session_spec.specs.Tasks.{fitted}
 use Rattle.reql_session.proofs.visiting.told_full.Goals as goal
 
 pub returns-clause-told : goal.returns-clause-told

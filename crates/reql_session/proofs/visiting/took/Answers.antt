@@ -1,4 +1,4 @@
-use Rattle.reql_shelf.specs.Kept.{books_of}
+use Rattle.reql_open_cursors.specs.Kept.{books_of}
 use Rattle.reql_session.proofs.Tokens.{feed_token}
 use Rattle.reql_session.proofs.visiting.took.Goals as goal
 

@@ -1,11 +1,11 @@
 use Rattle.std.proofs.Common.{◌≡◌, List, [], ◌++◌, ℕ, false, true≢false, Some, is_some, length, sym, ap, subst, ◌∙◌}
-use Rattle.reql_story.specs.Books.{Books, Open, feed_of, has_token}
-use Rattle.reql_story.specs.Tasks.{Visiting, at}
+use Rattle.reql_session_spec.specs.Books.{Books, Open, feed_of, has_token}
+use Rattle.reql_session_spec.specs.Tasks.{Visiting, at}
 use Rattle.reql_desk_moves.specs.Acting.{AreThere}
-use Rattle.reql_talk.specs.Meant.{arms_of}
-use Rattle.reql_shelf.specs.Apart.{IsApart}
-use Rattle.reql_shelf.specs.Kept.{books_of, feed_kept}
-use Rattle.reql_shelf.specs.There.{AllThere}
+use Rattle.reql_session_api.specs.Meant.{arms_of}
+use Rattle.reql_open_cursors.specs.Apart.{IsApart}
+use Rattle.reql_open_cursors.specs.Kept.{books_of, feed_kept}
+use Rattle.reql_open_cursors.specs.There.{AllThere}
 use Rattle.reql_session.specs.Keeping.{Keeps}
 use Rattle.reql_session.specs.Settling.{working, Settles}
 use Rattle.reql_session.proofs.Tokens.{feed_token, found_is, found_there}

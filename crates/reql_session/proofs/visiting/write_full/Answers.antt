@@ -1,7 +1,7 @@
 use Rattle.std.proofs.Common.{None, refl}
 use Rattle.reql_answer.specs.declared.error.ErrorType.TheVariants as errors
-use Rattle.reql_story.specs.Requests.{Failed}
-use Rattle.reql_story.specs.Bodies as texts
+use Rattle.reql_session_spec.specs.Requests.{Failed}
+use Rattle.reql_session_spec.specs.Bodies as texts
 use Rattle.reql_session.proofs.visiting.write_full.Goals as goal
 
 pub returns : goal.returns

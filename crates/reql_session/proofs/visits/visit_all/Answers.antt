@@ -1,5 +1,5 @@
 use Rattle.std.proofs.Common.{◌+◌, ◌∷◌, length, drop, sym, subst, ◌∙◌}
-use Rattle.reql_shelf.specs.Kept.{books_of}
+use Rattle.reql_open_cursors.specs.Kept.{books_of}
 use Rattle.reql_session.specs.Keeping.{Keeps}
 use Rattle.reql_session.specs.Settling.{working}
 use Rattle.reql_session.proofs.Visited.{keeps_dropping, is_apart, finds_quiet, keeps_front, next_token, within, visited_none, visited_next, visited_end, visited_all}

@@ -1,8 +1,8 @@
 use Rattle.std.proofs.Common.{◌≡◌, ℕ, ℤ, List, length, drop, ◌-◌}
 use Rattle.reql_outside.specs.Source.{Source}
 use Rattle.reql_hall.specs.Rooms.{Sits}
-use Rattle.reql_story.specs.Tasks.{Talk}
-use Rattle.reql_shelf.specs.Kept.{books_of}
+use Rattle.reql_session_spec.specs.Tasks.{Talk}
+use Rattle.reql_open_cursors.specs.Kept.{books_of}
 use Rattle.reql_session.specs.Keeping.{Keeps}
 use Rattle.reql_session.specs.Settling.{working}
 use Rattle.reql_session.proofs.Visited.{VisitedTo}

@@ -1,7 +1,7 @@
 use Rattle.std.proofs.Common.{refl}
 use Rattle.reql_datum.specs.View.{plain}
 use Rattle.reql_term.specs.View.{form_of}
-use Rattle.reql_sense.specs.Bound.{bound}
+use Rattle.reql_term_analysis.specs.Bound.{bound}
 use Rattle.reql_simple.proofs.Members.{made_first, put_next, made_last}
 use Rattle.reql_simple.proofs.object.members_found.Goals as goal
 

@@ -1,6 +1,6 @@
 use Rattle.std.proofs.Common.{◌≡◌, ◌-◌, ◌++◌, length, drop}
 use Rattle.std.specs.Map.{keys_of}
-use Rattle.reql_sense.specs.Bound.{bound}
+use Rattle.reql_term_analysis.specs.Bound.{bound}
 use Rattle.reql_simple.specs.Members.{MadeBefore}
 use Rattle.reql_simple.proofs.object.members_found.Given as goal
 

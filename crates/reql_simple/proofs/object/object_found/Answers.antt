@@ -1,4 +1,4 @@
-use Rattle.reql_sense.specs.Bound.{bound}
+use Rattle.reql_term_analysis.specs.Bound.{bound}
 use Rattle.reql_simple.proofs.object.object_found.Goals as goal
 
 pub returns-in-Ok : goal.returns-in-Ok

@@ -1,7 +1,7 @@
 use Rattle.std.proofs.Common.{◌+◌, ◌*◌}
 use Rattle.reql_term.specs.Form.{weight}
 use Rattle.reql_term.specs.View.{form_of}
-use Rattle.reql_sense.specs.Bound.{all_weight}
+use Rattle.reql_term_analysis.specs.Bound.{all_weight}
 use Rattle.reql_simple.proofs.terms.+found.Given as goal
 
 abbrev pub decreases-found : goal.decreases-found

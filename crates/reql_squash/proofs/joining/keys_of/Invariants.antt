@@ -1,6 +1,6 @@
 use Rattle.std.proofs.Common.{◌≡◌, ◌-◌, ◌++◌, length, map, drop}
 use Rattle.reql_datum.specs.Plain.{Plain}
-use Rattle.reql_feed_law.specs.Net.{keyed}
+use Rattle.reql_feed_spec.specs.Net.{keyed}
 use Rattle.reql_squash.proofs.joining.keys_of.Given as goal
 
 abbrev pub invariant-loop-item : goal.invariant-loop-item

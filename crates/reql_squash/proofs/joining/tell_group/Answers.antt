@@ -1,5 +1,5 @@
 use Rattle.std.proofs.Common.{◌≡◌, List, ◌++◌, IfOk, subst, sym}
-use Rattle.reql_feed_law.specs.Items.{Difference}
+use Rattle.reql_feed_spec.specs.Items.{Difference}
 use Rattle.reql_squash.specs.Told.{items_seen, told}
 use Rattle.reql_squash.proofs.Walks.{group_is}
 use Rattle.reql_squash.proofs.joining.tell_group.Goals as goal

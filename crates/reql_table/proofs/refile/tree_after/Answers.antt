@@ -2,8 +2,8 @@ use Rattle.std.proofs.Common.{◌≡◌, ap, sym, subst, Option}
 use Rattle.reql_datum.specs.Plain.{Plain}
 use Rattle.reql_datum.specs.View.{plain}
 use Rattle.reql_term.specs.Views.{index_of}
-use Rattle.reql_value.specs.Index.{index_list}
-use Rattle.reql_write_law.specs.Treated.{set_at}
+use Rattle.reql_value_spec.specs.Index.{index_list}
+use Rattle.reql_write_spec.specs.Treated.{set_at}
 use Rattle.reql_table.specs.Edits.{seen_if, key_at}
 use Rattle.reql_table.specs.Keys.{pairs_of}
 use Rattle.reql_table.proofs.Filing.{out_result, put_result}

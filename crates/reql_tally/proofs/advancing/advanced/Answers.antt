@@ -1,6 +1,6 @@
 use Rattle.std.proofs.Common.{◌<◌, ◌+◌, ◌∙◌, List, sym, ap, map, rules}
 use Rattle.reql_term.specs.Views.{Document}
-use Rattle.reql_law.specs.Engines.{kept_of}
+use Rattle.reql_table_spec.specs.Engines.{kept_of}
 use Rattle.reql_table.specs.Seen.{documents_of}
 use Rattle.reql_tally.specs.Views.{docs_after}
 use Rattle.reql_tally.proofs.Advances.{one_more}

@@ -1,5 +1,5 @@
 use Rattle.std.proofs.Common.{◌≡◌, ◌-◌, map}
-use Rattle.reql_law.specs.Engines.{kept_of}
+use Rattle.reql_table_spec.specs.Engines.{kept_of}
 use Rattle.reql_table.specs.Seen.{documents_of, indexes_of}
 use Rattle.reql_tally.specs.Views.{docs_after}
 use Rattle.reql_tally.proofs.advancing.advanced.Given as goal

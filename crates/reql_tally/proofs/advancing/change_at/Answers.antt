@@ -1,4 +1,4 @@
-use Rattle.reql_law.specs.Engines.{kept_of}
+use Rattle.reql_table_spec.specs.Engines.{kept_of}
 use Rattle.reql_tally.proofs.Advances.{found_as}
 use Rattle.reql_tally.proofs.advancing.change_at.Goals as goal
 

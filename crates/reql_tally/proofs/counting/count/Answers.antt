@@ -1,6 +1,6 @@
 use Rattle.std.proofs.Common.{◌++◌, ◌+◌, drop, map, refl}
-use Rattle.reql_law.specs.Engines.{kept_of}
-use Rattle.reql_law.specs.Machine.{unused}
+use Rattle.reql_table_spec.specs.Engines.{kept_of}
+use Rattle.reql_table_spec.specs.Machine.{unused}
 use Rattle.reql_tally.specs.Views.{given}
 use Rattle.reql_tally.proofs.Counted.{along_first, along_next, along_last}
 use Rattle.reql_tally.proofs.counting.count.Goals as goal

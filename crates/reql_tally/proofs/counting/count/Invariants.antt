@@ -1,5 +1,5 @@
 use Rattle.std.proofs.Common.{◌≤◌, ◌++◌, ◌-◌, drop, length}
-use Rattle.reql_law.specs.Machine.{unused}
+use Rattle.reql_table_spec.specs.Machine.{unused}
 use Rattle.reql_tally.specs.Past.{feeds_opened}
 use Rattle.reql_tally.specs.Tallied.{FoldsUp}
 use Rattle.reql_tally.specs.Views.{IsCounted, LeadsOn}

@@ -1,6 +1,6 @@
 use Rattle.std.proofs.Common.{ap, map}
-use Rattle.reql_law.specs.Engines.{kept_of}
-use Rattle.reql_law.specs.Table.{held}
+use Rattle.reql_table_spec.specs.Engines.{kept_of}
+use Rattle.reql_table_spec.specs.Table.{held}
 use Rattle.reql_table.specs.Seen.{documents_of, indexes_of}
 use Rattle.reql_tally.specs.Views.{given}
 use Rattle.reql_tally.proofs.Tallies.{skipped, folds_there}

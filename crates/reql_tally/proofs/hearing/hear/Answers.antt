@@ -1,7 +1,7 @@
 use Rattle.std.proofs.Common.{◌++◌, ◌+◌, drop, map}
-use Rattle.reql_law.specs.Engines.{kept_of}
-use Rattle.reql_law.specs.Machine.{unused}
-use Rattle.reql_law.specs.Replies.{said_of}
+use Rattle.reql_table_spec.specs.Engines.{kept_of}
+use Rattle.reql_table_spec.specs.Machine.{unused}
+use Rattle.reql_table_spec.specs.Replies.{said_of}
 use Rattle.reql_tally.specs.Past.{batches_taken}
 use Rattle.reql_tally.specs.Views.{given, made}
 use Rattle.reql_tally.proofs.Tallies.{hears_changes, hears_batches, heard_changes, heard_batches}

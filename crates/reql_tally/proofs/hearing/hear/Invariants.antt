@@ -1,6 +1,6 @@
 use Rattle.std.proofs.Common.{◌≡◌, ◌++◌, ◌-◌, drop, length, map}
-use Rattle.reql_law.specs.Engines.{kept_of}
-use Rattle.reql_law.specs.Machine.{unused}
+use Rattle.reql_table_spec.specs.Engines.{kept_of}
+use Rattle.reql_table_spec.specs.Machine.{unused}
 use Rattle.reql_tally.specs.Past.{batches_taken}
 use Rattle.reql_tally.specs.Views.{given, made}
 use Rattle.reql_tally.proofs.hearing.hear.Given as goal

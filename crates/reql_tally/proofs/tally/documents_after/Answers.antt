@@ -1,7 +1,7 @@
 use Rattle.std.proofs.Common.{◌∙◌, List, [], sym, ap, length, map}
 use Rattle.std.proofs.lemmas.List.{length-map}
 use Rattle.reql_term.specs.Views.{Document}
-use Rattle.reql_law.specs.Engines.{kept_of}
+use Rattle.reql_table_spec.specs.Engines.{kept_of}
 use Rattle.reql_tally.specs.Views.{docs_after}
 use Rattle.reql_tally.proofs.Advances.{all_of}
 use Rattle.reql_tally.proofs.tally.documents_after.Goals as goal

@@ -1,6 +1,6 @@
 use Rattle.std.proofs.Common.{ap}
-use Rattle.reql_law.specs.Table.{held}
-use Rattle.reql_law.specs.declared.command.FeedSpec.{FeedSpec}
+use Rattle.reql_table_spec.specs.Table.{held}
+use Rattle.reql_table_spec.specs.declared.command.FeedSpec.{FeedSpec}
 use Rattle.reql_table.specs.Seen.{documents_of, indexes_of}
 use Rattle.reql_tally.proofs.Tellings.{value_is}
 use Rattle.reql_tally.proofs.values.value_in.Goals as goal

@@ -1,5 +1,5 @@
 use Rattle.std.proofs.Common.{◌≡◌, ◌++◌, ◌-◌, drop, length}
-use Rattle.reql_feed_law.specs.Fold.{without_nulls}
+use Rattle.reql_feed_spec.specs.Fold.{without_nulls}
 use Rattle.reql_tally.proofs.values.without_nulls.Given as goal
 
 abbrev pub invariant-loop-value : goal.invariant-loop-value

@@ -1,5 +1,5 @@
 use Rattle.std.proofs.Common.{Ok, sym, ap, ◌∙◌}
-use Rattle.reql_story.specs.Logins.{account}
+use Rattle.reql_session_spec.specs.Logins.{account}
 use Rattle.reql_turns.proofs.Comings.{first_refused}
 use Rattle.reql_turns.proofs.login.answer_first.Goals as goal
 

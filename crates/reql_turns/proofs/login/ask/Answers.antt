@@ -3,8 +3,8 @@ use Rattle.std.specs.Prelude.{option_map}
 use Rattle.reql_scram.specs.Scram.{client_first_of}
 use Rattle.reql_scram.specs.Texts.{escaped}
 use Rattle.reql_login.specs.Turns.{asked_by}
-use Rattle.reql_story.specs.Logins.{account}
-use Rattle.reql_story.specs.Tasks.{Talk}
+use Rattle.reql_session_spec.specs.Logins.{account}
+use Rattle.reql_session_spec.specs.Tasks.{Talk}
 use Rattle.reql_turns.proofs.Comings.{first_failed, second_failed, asked_so, wanted_so}
 use Rattle.reql_turns.proofs.login.ask.Goals as goal
 

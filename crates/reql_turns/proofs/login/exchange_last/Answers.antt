@@ -1,6 +1,6 @@
 use Rattle.std.proofs.Common.{[], refl, ap}
 use Rattle.reql_login.specs.Turns.{Asked}
-use Rattle.reql_story.specs.Logins.{account}
+use Rattle.reql_session_spec.specs.Logins.{account}
 use Rattle.reql_turns.proofs.Greeted.{said_so}
 use Rattle.reql_turns.proofs.Exchanging.{waits_on, admits_on, unadmitted, last_away}
 use Rattle.reql_turns.proofs.login.exchange_last.Goals as goal

@@ -1,6 +1,6 @@
 use Rattle.std.proofs.Common.{refl, drop}
 use Rattle.reql_login.specs.Messages.{More}
-use Rattle.reql_story.specs.Logins.{account}
+use Rattle.reql_session_spec.specs.Logins.{account}
 use Rattle.reql_turns.proofs.Comings.{greeted_turn, oversized}
 use Rattle.reql_turns.proofs.login.first_turn.Goals as goal
 

@@ -1,7 +1,7 @@
 use Rattle.std.proofs.Common.{◌≡◌, []}
-use Rattle.reql_story.specs.Logins.{Waiting}
-use Rattle.reql_story.specs.Session.{Rest}
-use Rattle.reql_talk.specs.World.{world_at}
+use Rattle.reql_session_spec.specs.Logins.{Waiting}
+use Rattle.reql_session_spec.specs.Session.{Rest}
+use Rattle.reql_session_api.specs.World.{world_at}
 use Rattle.reql_turns.specs.Ears.{TurnsOver}
 use Rattle.reql_turns.proofs.session.serve.Given as goal
 

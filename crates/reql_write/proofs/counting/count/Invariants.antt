@@ -1,5 +1,5 @@
 use Rattle.std.proofs.Common.{◌≡◌, ◌+◌, ◌≤◌, drop, map}
-use Rattle.reql_write_law.specs.Write.{count}
+use Rattle.reql_write_spec.specs.Write.{count}
 use Rattle.reql_write.specs.Counting.{is_of}
 use Rattle.reql_write.specs.Seen.{seen}
 use Rattle.reql_write.proofs.counting.count.Given as goal

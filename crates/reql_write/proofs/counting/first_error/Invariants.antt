@@ -1,5 +1,5 @@
 use Rattle.std.proofs.Common.{◌≡◌, drop, map}
-use Rattle.reql_write_law.specs.Write.{errors_in, first}
+use Rattle.reql_write_spec.specs.Write.{errors_in, first}
 use Rattle.reql_write.specs.Seen.{seen}
 use Rattle.reql_write.proofs.counting.first_error.Given as goal
 

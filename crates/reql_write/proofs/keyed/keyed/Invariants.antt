@@ -1,5 +1,5 @@
 use Rattle.std.proofs.Common.{◌≡◌, ◌++◌, ◌-◌, drop, length}
-use Rattle.reql_write_law.specs.Treating.{keyed}
+use Rattle.reql_write_spec.specs.Treating.{keyed}
 use Rattle.reql_write.proofs.keyed.keyed.Given as goal
 
 abbrev pub decreases-loop-document : goal.decreases-loop-document

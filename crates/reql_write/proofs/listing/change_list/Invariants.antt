@@ -1,6 +1,6 @@
 use Rattle.std.proofs.Common.{◌≡◌, ◌++◌, drop, map}
 use Rattle.reql_rules.specs.Lists.{joined}
-use Rattle.reql_write_law.specs.Treated.{changes_of}
+use Rattle.reql_write_spec.specs.Treated.{changes_of}
 use Rattle.reql_table.specs.Edits.{told}
 use Rattle.reql_write.specs.Seen.{seen}
 use Rattle.reql_write.proofs.listing.change_list.Given as goal

@@ -1,6 +1,6 @@
 use Rattle.std.proofs.Common.{◌≡◌, ◌++◌, drop, map}
 use Rattle.std.specs.List.{filter}
-use Rattle.reql_write_law.specs.Treated.{shown}
+use Rattle.reql_write_spec.specs.Treated.{shown}
 use Rattle.reql_write.specs.Listing.{AreNamed, is_wanted}
 use Rattle.reql_write.specs.Seen.{seen}
 use Rattle.reql_write.proofs.listing.list_of.Given as goal

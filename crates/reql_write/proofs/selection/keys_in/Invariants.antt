@@ -1,5 +1,5 @@
 use Rattle.std.proofs.Common.{◌≡◌, ◌++◌, ◌-◌, drop, length, map}
-use Rattle.reql_write_law.specs.Selecting.{key_in}
+use Rattle.reql_write_spec.specs.Selecting.{key_in}
 use Rattle.reql_write.proofs.selection.keys_in.Given as goal
 
 abbrev pub decreases-loop-document : goal.decreases-loop-document

@@ -3,8 +3,8 @@ use Rattle.std.proofs.lemmas.List.{map-append}
 use Rattle.reql_datum.proofs.Walks.{rest_at}
 use Rattle.reql_datum.specs.View.{plain}
 use Rattle.reql_rules.specs.Lists.{joined}
-use Rattle.reql_write_law.specs.Treated.{changed_by, changes_of}
-use Rattle.reql_write_law.specs.Treating.{treat_all as treat_all_of}
+use Rattle.reql_write_spec.specs.Treated.{changed_by, changes_of}
+use Rattle.reql_write_spec.specs.Treating.{treat_all as treat_all_of}
 use Rattle.reql_write.specs.Acting.{treating}
 use Rattle.reql_write.specs.Seen.{seen}
 use Rattle.reql_write.proofs.After.{after_one, treated_on}

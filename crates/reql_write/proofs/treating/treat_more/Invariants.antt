@@ -1,7 +1,7 @@
 use Rattle.std.proofs.Common.{◌≡◌, ◌++◌, ◌-◌, drop, length, map}
 use Rattle.reql_rules.specs.Lists.{joined}
-use Rattle.reql_write_law.specs.Treated.{changed_by, changes_of}
-use Rattle.reql_write_law.specs.Treating.{treat_all}
+use Rattle.reql_write_spec.specs.Treated.{changed_by, changes_of}
+use Rattle.reql_write_spec.specs.Treating.{treat_all}
 use Rattle.reql_write.specs.Acting.{treating}
 use Rattle.reql_write.specs.Seen.{seen}
 use Rattle.reql_write.proofs.treating.treat_more.Given as goal

@@ -1,8 +1,8 @@
 use Rattle.std.proofs.Common.{rules, ◌≡◌, ◌<◌, ◌-◌, ◌^◌, length, map, refl, subst, sym}
 use Rattle.std.proofs.lemmas.List.{length-map}
 use Rattle.reql_table.specs.Seen.{documents_of, indexes_of}
-use Rattle.reql_write_law.specs.Write.{write}
-use Rattle.reql_law.specs.declared.reply.Said.TheVariants as answers
+use Rattle.reql_write_spec.specs.Write.{write}
+use Rattle.reql_table_spec.specs.declared.reply.Said.TheVariants as answers
 use Rattle.reql_feeds.specs.Turn.{told}
 use Rattle.reql_core.proofs.Written.{all_come, full, kept_none}
 use Rattle.reql_core.proofs.live.LiveTable.perform.Goals as goal

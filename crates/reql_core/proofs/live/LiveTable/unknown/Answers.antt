@@ -1,5 +1,5 @@
 use Rattle.std.proofs.Common.{◌≡◌, ◌<◌, ◌+◌, ◌^◌, None, option_map, subst, sym}
-use Rattle.reql_table_machine.specs.Feeds.{find_feed, has_something}
+use Rattle.reql_table_machine_spec.specs.Feeds.{find_feed, has_something}
 use Rattle.reql_feeds.specs.Record.{records}
 use Rattle.reql_core.specs.Live.{Live}
 use Rattle.reql_core.proofs.Batches.{unknown}

@@ -1,6 +1,6 @@
 use Rattle.std.proofs.Common.{◌≡◌, ◌++◌, map, drop, option_map}
 use Rattle.reql_datum.specs.View.{plain}
-use Rattle.reql_feed_law.specs.Items.{paired}
+use Rattle.reql_feed_spec.specs.Items.{paired}
 use Rattle.reql_feed_range.specs.Printed.{shows, behind}
 use Rattle.reql_feed_range.proofs.printed.Printer.pairs.Given as goal
 

@@ -1,9 +1,9 @@
 use Rattle.std.proofs.Common.{◌<◌, List, sym, ap, subst, ◌∙◌}
 use Rattle.std.specs.List.{All}
 use Rattle.reql_datum.specs.Plain.{Plain}
-use Rattle.reql_law.specs.declared.command.FeedSpec.{FeedSpec}
+use Rattle.reql_table_spec.specs.declared.command.FeedSpec.{FeedSpec}
 use Rattle.reql_queue.specs.Queued.{Queued}
-use Rattle.reql_table_machine.specs.Feeds.{Feed}
+use Rattle.reql_table_machine_spec.specs.Feeds.{Feed}
 use Rattle.reql_feeds.specs.Keeps.{Keeps, IsSized, feeds_of, at_least_one}
 use Rattle.reql_feeds.specs.Seen.{sized, all_sized}
 use Rattle.reql_feeds.specs.declared.entry.Entry.{Entry}

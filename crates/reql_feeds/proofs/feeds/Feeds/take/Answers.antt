@@ -4,7 +4,7 @@ use Rattle.reql_feeds.specs.Keeps.{feeds_of}
 use Rattle.reql_feeds.specs.Seen.{all_sized}
 use Rattle.reql_feeds.specs.declared.entry.Entry.{Entry}
 use Rattle.reql_feeds.specs.Record.{records, batch, given}
-use Rattle.reql_table_machine.specs.Feeds.{find_feed}
+use Rattle.reql_table_machine_spec.specs.Feeds.{find_feed}
 use Rattle.reql_feeds.proofs.Whole.{stays, taken_left, kept_left}
 use Rattle.reql_feeds.proofs.feeds.Feeds.take.Goals as goal
 

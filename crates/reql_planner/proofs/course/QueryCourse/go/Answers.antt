@@ -1,5 +1,5 @@
 use Rattle.std.proofs.Common.{Bool, sym, subst}
-use Rattle.reql_moves.specs.Heard.{heard}
+use Rattle.reql_plan_steps.specs.Heard.{heard}
 use Rattle.reql_planner.specs.Follows.{heard_in, MayFollow}
 use Rattle.reql_planner.proofs.Stating.{gone}
 use Rattle.reql_planner.proofs.course.QueryCourse.go.Goals as goal

@@ -1,4 +1,4 @@
-use Rattle.reql_shelf.specs.Kept.{books_of}
+use Rattle.reql_open_cursors.specs.Kept.{books_of}
 use Rattle.reql_session.specs.Settling.{working}
 use Rattle.reql_session.proofs.Turned.{frame_begun}
 use Rattle.reql_session.proofs.session.SessionHandler.handle.Goals as goal

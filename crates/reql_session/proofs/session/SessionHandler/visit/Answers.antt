@@ -1,7 +1,7 @@
 use Rattle.std.proofs.Common.{[], sym, ap, subst, ◌∙◌}
-use Rattle.reql_story.specs.Session.{Visits}
-use Rattle.reql_talk.specs.World.{Outcome, world_at}
-use Rattle.reql_shelf.specs.Kept.{books_of}
+use Rattle.reql_session_spec.specs.Session.{Visits}
+use Rattle.reql_session_api.specs.World.{Outcome, world_at}
+use Rattle.reql_open_cursors.specs.Kept.{books_of}
 use Rattle.reql_session.specs.Settling.{working}
 use Rattle.reql_session.proofs.Turned.{turn_begun}
 use Rattle.reql_session.proofs.session.SessionHandler.visit.Goals as goal

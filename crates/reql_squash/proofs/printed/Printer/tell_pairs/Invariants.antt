@@ -1,5 +1,5 @@
 use Rattle.std.proofs.Common.{◌≡◌, ◌++◌, drop}
-use Rattle.reql_feed_law.specs.Items.{paired}
+use Rattle.reql_feed_spec.specs.Items.{paired}
 use Rattle.reql_squash.specs.Told.{items_seen, told}
 use Rattle.reql_squash.proofs.printed.Printer.tell_pairs.Given as goal
 

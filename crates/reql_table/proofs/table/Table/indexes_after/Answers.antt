@@ -3,7 +3,7 @@ use Rattle.std.proofs.lemmas.List.{nil_from_length}
 use Rattle.reql_datum.specs.Plain.{Plain}
 use Rattle.reql_datum.specs.View.{plain}
 use Rattle.reql_ptree.specs.Pairs.{find}
-use Rattle.reql_write_law.specs.Treated.{changed}
+use Rattle.reql_write_spec.specs.Treated.{changed}
 use Rattle.reql_table.specs.Edits.{told}
 use Rattle.reql_table.specs.Seen.{documents_of, next_of, numbered_of}
 use Rattle.reql_table.proofs.Coming.{turned_is}

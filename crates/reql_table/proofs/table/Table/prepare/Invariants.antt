@@ -1,5 +1,5 @@
 use Rattle.std.proofs.Common.{◌≡◌, drop, map}
-use Rattle.reql_write_law.specs.Treated.{changed_by}
+use Rattle.reql_write_spec.specs.Treated.{changed_by}
 use Rattle.reql_table.specs.Edits.{told}
 use Rattle.reql_table.specs.Seen.{documents_of}
 use Rattle.reql_table.proofs.table.Table.prepare.Given as goal

@@ -6,7 +6,7 @@ use Rattle.reql_datum.specs.Plain.{Plain}
 use Rattle.reql_datum.specs.View.{plain}
 use Rattle.reql_ptree.specs.Pairs.{find}
 use Rattle.reql_term.specs.Views.{Document}
-use Rattle.reql_write_law.specs.Treated.{Changed, changed, changed_by}
+use Rattle.reql_write_spec.specs.Treated.{Changed, changed, changed_by}
 use Rattle.reql_table.specs.Edits.{seen_if, told}
 use Rattle.reql_table.specs.Seen.{documents_of, next_of, numbered, AreNumbered, IsFiled}
 use Rattle.reql_table.proofs.Coming.{next_change, at_map, take_whole, all_rise, turned_is}

@@ -1,6 +1,6 @@
 use Rattle.std.proofs.Common.{◌≡◌, map, take}
 use Rattle.std.specs.List.{AllByRecursion}
-use Rattle.reql_write_law.specs.Treated.{changed_by}
+use Rattle.reql_write_spec.specs.Treated.{changed_by}
 use Rattle.reql_table.specs.Edits.{told}
 use Rattle.reql_table.specs.Seen.{documents_of, numbered_of, numbered, IsFiled}
 use Rattle.reql_table.proofs.table.Table.with_changes.Given as goal

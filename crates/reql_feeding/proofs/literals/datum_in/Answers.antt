@@ -1,5 +1,0 @@
-use Rattle.reql_value.specs.World.{bare_world}
-use Rattle.reql_feeding.proofs.literals.datum_in.Goals as goal
-
-pub returns : goal.returns
-returns c = rw (c.in_ok-given.ensures bare_world) at (c.as_datum-datum.ensures bare_world)

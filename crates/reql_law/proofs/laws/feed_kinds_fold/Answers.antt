@@ -1,5 +1,0 @@
-use Rattle.reql_law.proofs.Folding.{kinds_fold}
-use Rattle.reql_law.proofs.laws.feed_kinds_fold.Goals as goal
-
-pub returns : goal.returns
-returns c = kinds_fold

@@ -1,5 +1,0 @@
-use Rattle.reql_law.proofs.Reading.{points, ranges, named_ranges, limits, limits_by_key}
-use Rattle.reql_law.proofs.laws.requests_are_read.Goals as goal
-
-pub returns : goal.returns
-returns c = record { points = points; ranges = ranges; named_ranges = named_ranges; limits = limits; limits_by_key = limits_by_key }

@@ -1,6 +1,0 @@
-use Rattle.reql_law.proofs.Numbers.{numbers_rise}
-use Rattle.reql_law.proofs.Weaves.{subscribes_placed}
-use Rattle.reql_law.proofs.laws.subscribes_are_told.Goals as goal
-
-pub returns : goal.returns
-returns c = record { placed = subscribes_placed; numbers = numbers_rise }

@@ -1,0 +1,6 @@
+use Rattle.reql_open_cursors.proofs.Moves.{feed_takes}
+use Rattle.reql_open_cursors.proofs.feeds.put_left.Goals as goal
+
+pub returns-in-Some : goal.returns-in-Some
+returns-in-Some c x apart is =
+    feed_takes c.args.items c.args.from c.args.token c.as_slice.result.now c.args.feeds.now.items c.put_at.new.feeds.items c.in-Some.place c.as_slice.ensures.value c.in-Some.ensures.none c.in-Some.ensures.some c.in-Some.ensures.there c.put_at.ensures x apart is

@@ -1,0 +1,5 @@
+use Rattle.reql_value_spec.specs.World.{bare_world}
+use Rattle.reql_plan_changes.proofs.literals.datum_in.Goals as goal
+
+pub returns : goal.returns
+returns c = rw (c.in_ok-given.ensures bare_world) at (c.as_datum-datum.ensures bare_world)

@@ -1,9 +1,0 @@
-use Rattle.reql_plan_law.proofs.Carried as carried
-use Rattle.reql_plan_law.proofs.Opens.{asked_feeds_are_read}
-use Rattle.reql_plan_law.proofs.laws.planned_feeds_are_read.Goals as goal
-
-pub returns-clause-changes : goal.returns-clause-changes
-returns-clause-changes c = carried.planned_feeds_are_read
-
-pub returns-clause-asked : goal.returns-clause-asked
-returns-clause-asked c = asked_feeds_are_read

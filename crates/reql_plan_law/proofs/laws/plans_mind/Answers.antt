@@ -1,5 +1,0 @@
-use Rattle.reql_plan_law.proofs.Minding as minding
-use Rattle.reql_plan_law.proofs.laws.plans_mind.Goals as goal
-
-pub returns : goal.returns
-returns c = minding.plans_mind

@@ -1,0 +1,4 @@
+use Rattle.reql_plan_results.proofs.digits.+write_digits.Given as goal
+
+abbrev pub decreases-write_digits : goal.decreases-write_digits
+decreases-write_digits l = l.places

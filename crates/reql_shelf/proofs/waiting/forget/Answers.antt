@@ -1,7 +1,0 @@
-use Rattle.std.proofs.Common.{ℕ, not, rules}
-use Rattle.std.specs.Prelude.{nat_eq}
-use Rattle.std.proofs.lemmas.Fn.{filter_same}
-use Rattle.reql_shelf.proofs.waiting.forget.Goals as goal
-
-pub returns : goal.returns
-returns c = filter_same _ (λ (x : ℕ). not (nat_eq x c.args.token)) _ (λ x b f k. search rules) _ _ c.retain.ensures.filtered

@@ -1,5 +1,0 @@
-use Rattle.reql_story.proofs.Unsent as unsent
-use Rattle.reql_story.proofs.laws.first_failed.Goals as goal
-
-pub returns : goal.returns
-returns g c = λ f. unsent.first_failed (g.F.Planning.talk f)

@@ -1,5 +1,0 @@
-use Rattle.reql_story.proofs.Upward as upward
-use Rattle.reql_story.proofs.laws.kept.Goals as goal
-
-pub returns : goal.returns
-returns g c = λ f. upward.kept (g.F.Planning.talk f)

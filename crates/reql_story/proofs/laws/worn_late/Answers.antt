@@ -1,5 +1,0 @@
-use Rattle.reql_story.proofs.Counts as counts
-use Rattle.reql_story.proofs.laws.worn_late.Goals as goal
-
-pub returns : goal.returns
-returns g c = λ f. counts.worn_late (g.F.Planning.talk f)

@@ -1,5 +1,0 @@
-use Rattle.reql_table_machine.proofs.Tables.{all_fed}
-use Rattle.reql_table_machine.proofs.laws.feeds_fold.Goals as goal
-
-pub returns : goal.returns
-returns g c = all_fed g.F.Meaning.feeding g.F.Meaning.good g.F.Meaning.may

@@ -1,5 +1,0 @@
-use Rattle.reql_table_machine.proofs.Sampled.{laws}
-use Rattle.reql_table_machine.proofs.laws.sample_folds.Goals as goal
-
-pub returns : goal.returns
-returns c = laws

@@ -1,5 +1,0 @@
-use Rattle.reql_table_machine.proofs.Subscribing.{subscribes_are_placed}
-use Rattle.reql_table_machine.proofs.laws.subscribes_are_told.Goals as goal
-
-pub returns : goal.returns
-returns g c = subscribes_are_placed g.F.Meaning.feeding

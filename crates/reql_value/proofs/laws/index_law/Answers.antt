@@ -1,5 +1,0 @@
-use Rattle.reql_value.proofs.IndexLists.{in_order}
-use Rattle.reql_value.proofs.laws.index_law.Goals as goal
-
-pub returns : goal.returns
-returns c = in_order

@@ -1,5 +1,0 @@
-use Rattle.reql_value.proofs.Stages.{go_by_element}
-use Rattle.reql_value.proofs.laws.stage_law.Goals as goal
-
-pub returns : goal.returns
-returns c = go_by_element
