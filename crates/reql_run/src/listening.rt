@@ -7,6 +7,7 @@ ghost use Rattle.reql_open_feed.specs.Open.{held_in};
 ghost use Rattle.reql_table_spec.specs.Laws.{DocsAtStamp, StampCounts, FeedsComeAndGo, UnsubscribesAreTold, ShutWhereDropped, LooksTellTheTable};
 ghost use Rattle.reql_table_spec.specs.Terms.{PointsShowTheirTerms, RangesShowTheirTerms, LimitsShowTheirTerms};
 ghost use Rattle.reql_plan_spec.specs.Looks.{ReadSlotsRise};
+ghost use Rattle.reql_query_session_spec.specs.Told.{keys_by};
 ghost use Rattle.reql_query_session_spec.specs.Laws.{AllInOrder, AllFramesHandled, AllLoginRollsFirst, AllWornLate, AllFirstFailed, AllAreAnswered, AllWaitForNothing, AllValidClose, AllFeedsHold, AllSkipsAreSent, AllFeedsAreRead, AllFeedsAreTheirs, AllFeedsAreOpened, AllFeedsBegin, AllFeedsOpen, AllFeedsEnd, AllContinuesAreAnswered, AllNothingKeptBack, AllOfFeedsIsSent, AllFeedsAreTold, AllBatchesAreOfFeeds, AllBatchesAreFull, AllTakesAreOfFeeds, AllIsSaid, AllFeedsAreAskedInTurn, AllRunNoOtherFeeds, AllFeedsEndWithTheirOwn, AllFaultyFeedsAreRefused, AllCrowdedFeedsAreRefused, AllNextFeedsAreRun, AllOpenFeedsAreTold, AllDeniedFeedsAreClosed, AllArmsAreApart, AllTakesArePlaced, AllSubscribesArePlaced, BatchesAgree, InfoIsServers, PlansAreTold};
 ghost use Rattle.reql_query_session_spec.specs.Looks.{AllAreSeenAtTheirSlots, AllDroppedTablesAreTold, AllLookAtNoOthers, AllReadSlotsAreLookedAt, AllTermsGoOnInWhatWasSeen, AllValuesAreOfWhatWasSeen};
 ghost use Rattle.reql_query_session_spec.specs.Refusing.{FirstRefusal, ShapeRefusal};
