@@ -1,7 +1,4 @@
 // The password in a file.
-ghost use Rattle.std.specs.Prelude.{◌≡◌};
-ghost use Rattle.std.specs.List.{before_first};
-ghost use Rattle.reqld.specs.Line.{is_line_end};
 
 use crate::messages::out_of_memory;
 use std::fs::File;
@@ -31,9 +28,7 @@ fn reason(kind: ErrorKind) -> Unread {
 }
 
 // The bytes before the first end of a line.
-fn first_line(bytes: &[u8]) -> &[u8]
-    ensures { result.now ≡ before_first is_line_end bytes.now }
-{
+fn first_line(bytes: &[u8]) -> &[u8] {
     match bytes
         .iter()
         .position(|byte| *byte == b'\n' || *byte == b'\r')
