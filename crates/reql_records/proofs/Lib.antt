@@ -1,0 +1,3 @@
+pub mod Flushing
+mod Applying
+mod Promise
