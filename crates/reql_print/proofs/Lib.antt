@@ -1,0 +1,14 @@
+pub mod Below
+pub mod Deepest
+pub mod Appended
+pub mod Counted
+pub mod Bounds
+pub mod Kept
+pub mod Made
+pub mod Indexes
+pub mod Distinct
+pub mod Spelled
+pub mod Tested
+pub mod Whole
+pub mod Depths
+pub mod Complete
