@@ -1,4 +1,7 @@
 // The password in a file.
+ghost use Rattle.std.specs.Prelude.{◌≡◌};
+ghost use Rattle.std.specs.List.{before_first, position};
+ghost use Rattle.reqld.specs.Line.{is_line_end};
 
 use crate::messages::out_of_memory;
 use std::fs::File;
@@ -27,15 +30,22 @@ fn reason(kind: ErrorKind) -> Unread {
     Unread::File
 }
 
-// The bytes before the first end of a line.
-fn first_line(bytes: &[u8]) -> &[u8] {
-    match bytes
-        .iter()
-        .position(|byte| *byte == b'\n' || *byte == b'\r')
-    {
+// The bytes before the first end of a line, or all of them.
+fn first_line(bytes: &[u8]) -> &[u8]
+    ensures { result.now ≡ before_first is_line_end bytes.now }
+{
+    match line_end(bytes) {
         Some(end) => &bytes[..end],
         None => bytes,
     }
+}
+
+fn line_end(bytes: &[u8]) -> Option<usize>
+    ensures { result ≡ position is_line_end bytes.now }
+{
+    bytes
+        .iter()
+        .position(|byte| *byte == b'\n' || *byte == b'\r')
 }
 
 /// The first line of a file, without its end.
