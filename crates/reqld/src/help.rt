@@ -5,7 +5,7 @@ use std::io;
 pub const VERSION: &str = "reqld 0.1.0";
 
 // What `--help` says, a line each: a script prints them too, from the text of this file.
-const HELP: [&str; 57] = [
+const HELP: [&str; 60] = [
     // help begins
     "reqld: a document database server that speaks RethinkDB's client protocol\n",
     "\n",
@@ -15,6 +15,9 @@ const HELP: [&str; 57] = [
     "  reqld listen [--port PORT] [--workers N] [--sessions N] [--quiet]\n",
     "      [--key KEY] [--password WORD] [--table DB.NAME]..\n",
     "      serves clients that connect to a port of 127.0.0.1\n",
+    "  reqld query [--port PORT] [--key KEY] [BODY..]\n",
+    "      asks a server, and prints what it answers; reqld query --help says how. This is a program of its\n",
+    "      own, which ./reqld starts\n",
     "  reqld load SEED SIZE\n",
     "      serves four sessions of its own at once, which write SIZE documents, 1 to 20000, and follow them\n",
     "      with feeds, and prints how many documents and changes there were, how many feeds, and how many\n",
@@ -70,7 +73,7 @@ const HELP: [&str; 57] = [
 /// How words would be right.
 pub const RIGHT: &str = "reqld stdio [--key KEY] [--password WORD] [--table DB.NAME].., \
     reqld listen [--port PORT] [--workers N] [--sessions N] [--quiet] [--key KEY] [--password WORD] [--table DB.NAME].., \
-    reqld load SEED SIZE, --help or --version";
+    reqld query [--port PORT] [--key KEY] [BODY..], reqld load SEED SIZE, --help or --version";
 
 /// Prints how to use the program.
 pub fn print_help(rt: &HostRuntime) -> io::Result<()> {
