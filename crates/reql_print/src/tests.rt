@@ -37,27 +37,26 @@ fn is_printed_as(alloc: Global, body: &str, text: &str) -> Result<bool, Fail> {
     }
 }
 
-// How many of the bodies are printed otherwise.
-fn wrong(alloc: Global) -> Result<usize, Fail> {
-    let mut wrong = 0;
+// Whether each of the bodies is printed so.
+fn are_printed(alloc: Global) -> Result<bool, Fail> {
     for &body in &BODIES {
         if !is_printed_as(alloc, body, body)? {
-            wrong += 1;
+            return Ok(false);
         }
     }
     for &(body, text) in &SPELLED {
         if !is_printed_as(alloc, body, text)? {
-            wrong += 1;
+            return Ok(false);
         }
     }
-    Ok(wrong)
+    Ok(true)
 }
 
 #[test]
 fn bodies_are_printed_as_drivers_write_them(rt: HostRuntime) -> Result<(), Fail> {
     let alloc = rt.alloc();
-    let wrong = wrong(alloc)?;
-    assert_eq!(rt; wrong, 0);
+    let printed = are_printed(alloc)?;
+    assert!(rt; printed);
     Ok(())
 }
 
