@@ -12,6 +12,7 @@ pub mod Chunks
 pub mod Turns
 pub mod Changed
 pub mod InPlace
+pub mod Falls
 pub mod Packed
 pub mod RemoveInPlace
 pub mod Spent

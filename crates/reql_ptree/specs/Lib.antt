@@ -8,6 +8,7 @@ pub mod Seen
 pub mod Way
 pub mod Halves
 pub mod Turn
+pub mod Fall
 pub mod Range
 pub mod Ends
 pub mod Spent

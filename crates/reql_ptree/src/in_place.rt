@@ -5,16 +5,17 @@ ghost use Rattle.reql_datum.specs.Order.{order};
 ghost use Rattle.reql_memory.specs.Sorted.{IsHitBy, IsGapBy};
 ghost use Rattle.reql_datum.specs.View.{plain};
 ghost use Rattle.reql_ptree.specs.Chunk.{pair, IsChunk, IsHeld};
+ghost use Rattle.reql_ptree.specs.Fall.{is_put, Fallen, steps_at};
 ghost use Rattle.reql_ptree.specs.Pairs.{put};
 ghost use Rattle.reql_ptree.specs.Tall.{tall};
 
 use crate::chunk::{Chunk, Pair};
 use crate::edit::{MOST, copied, set_value};
+use crate::fall::{Fall, Fell, fall_at, fell_of};
 use crate::put::side_put;
 use crate::seek::seek_few;
 use crate::side::{Side, fork};
 use crate::steps::Steps;
-use crate::turn::{Turn, turn_at};
 use reql_datum::{Datum, Memory};
 use std::alloc::Global;
 use std::mem;
@@ -212,6 +213,69 @@ pub(crate) fn resized(size: u64, before: u64, after: u64) -> u64
     size - before + after
 }
 
+// Puts a value at a key where the pair falls to, if that chunk has room, and says what came of it.
+// The pair falls to the last chunk whose first key isn't above the key, and to the first chunk of
+// `least`, the side that no chunk stands before. Nothing is changed where nothing is put.
+fn side_fall<L>(
+    alloc: Global,
+    side: &mut Side,
+    key: &Datum,
+    value: &Datum,
+    least: bool,
+    steps: &mut Steps<L>,
+) -> Fell
+    ensures pairs { side.new.0 ≡ (if is_put result then put (plain key.now) (plain value.now)
+        side.old.0 else side.old.0) }
+    ensures fallen { Fallen (plain key.now) least side.old.0 result }
+    ensures height { side.new.1 ≡ side.old.1 }
+    ensures counted { steps.new ≤ steps.old + (side.old.1 + steps_at result) }
+{
+    if side.len() == u64::MAX {
+        return Fell::Kept;
+    }
+    if let Err(_) = own_side(alloc, side) {
+        return Fell::Kept;
+    }
+    let Some(shared) = &mut side.node else {
+        return Fell::Kept;
+    };
+    let Some(node) = Arc::get_mut(shared) else {
+        return Fell::Kept;
+    };
+    steps.tick();
+    match fall_at(&node.left, &node.chunk, &node.right, key, least) {
+        Fall::Below => Fell::Before,
+        Fall::Here => {
+            let before = node.chunk.len();
+            let done = chunk_put_in(alloc, &mut node.chunk, key, value, steps);
+            side.size = resized(side.size, before, node.chunk.len());
+            fell_of(done)
+        }
+        Fall::Left => {
+            let before = node.left.len();
+            let fell = side_fall(alloc, &mut node.left, key, value, least, steps);
+            side.size = resized(side.size, before, node.left.len());
+            fell
+        }
+        Fall::Right => {
+            let before = node.right.len();
+            match side_fall(alloc, &mut node.right, key, value, false, steps) {
+                Fell::Kept => Fell::Kept,
+                Fell::Put => {
+                    side.size = resized(side.size, before, node.right.len());
+                    Fell::Put
+                }
+                Fell::Before => {
+                    let before = node.chunk.len();
+                    let done = chunk_put_in(alloc, &mut node.chunk, key, value, steps);
+                    side.size = resized(side.size, before, node.chunk.len());
+                    fell_of(done)
+                }
+            }
+        }
+    }
+}
+
 /// A side with a value at a key, where that changes the pairs of one chunk alone, which has room for
 /// it; and whether it was so. Nothing is changed where not.
 pub(crate) fn side_put_in<L>(
@@ -226,40 +290,10 @@ pub(crate) fn side_put_in<L>(
     ensures height { side.new.1 ≡ side.old.1 }
     ensures counted { steps.new ≤ steps.old + (2 * side.old.1 + 4) }
 {
-    if side.len() == u64::MAX {
-        return false;
-    }
-    if let Err(_) = own_side(alloc, side) {
-        return false;
-    }
-    match &mut side.node {
-        None => false,
-        Some(shared) => match Arc::get_mut(shared) {
-            None => false,
-            Some(node) => {
-                steps.tick();
-                match turn_at(&node.left, &node.chunk, &node.right, key, steps) {
-                    Turn::Here => {
-                        let before = node.chunk.len();
-                        let done = chunk_put_in(alloc, &mut node.chunk, key, value, steps);
-                        side.size = resized(side.size, before, node.chunk.len());
-                        done
-                    }
-                    Turn::Left => {
-                        let before = node.left.len();
-                        let done = side_put_in(alloc, &mut node.left, key, value, steps);
-                        side.size = resized(side.size, before, node.left.len());
-                        done
-                    }
-                    Turn::Right => {
-                        let before = node.right.len();
-                        let done = side_put_in(alloc, &mut node.right, key, value, steps);
-                        side.size = resized(side.size, before, node.right.len());
-                        done
-                    }
-                }
-            }
-        },
+    match side_fall(alloc, side, key, value, true, steps) {
+        Fell::Put => true,
+        Fell::Kept => false,
+        Fell::Before => false,
     }
 }
 

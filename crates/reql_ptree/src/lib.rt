@@ -5,6 +5,7 @@ mod around;
 mod balance;
 mod chunk;
 mod edit;
+mod fall;
 mod in_place;
 mod look;
 mod pack;
