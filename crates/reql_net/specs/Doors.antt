@@ -21,6 +21,7 @@ untouched = record { gave = 0; over = false; broken = false; faults = 0 }
 -- one call, over links that tell their tapes: a link that it gives is fresh
 abbrev pub Opens : {L : Type 0} → (L → Tape) → DoorTold → DoorTold → Accept L → Type 0
 Opens tape_of old new (accept.Link l) = (new ≡ record old { gave = counted old.gave 1 }) × tape.IsFresh (tape_of l)
+Opens tape_of old new accept.Idle = new ≡ old
 Opens tape_of old new accept.End = new ≡ record old { over = true }
 Opens tape_of old new accept.Failed = new ≡ record old { over = true; broken = true; faults = counted old.faults 1 }
 
@@ -37,12 +38,13 @@ opening links fails = record { told = untouched; links = links; calls = 0; fails
 abbrev pub fails_now : Listed → Bool
 fails_now d = list_any (λ k. k == d.calls) d.fails
 
--- one call: the next link, or the end past the last, or it is to fail
+-- one call: the next link, or the end past the last, or it is to fail; it is never idle
 abbrev pub Hands : Listed → Listed → Accept Played → Type 0
 Hands old new (accept.Link l) =
     (fails_now old ≡ false)
     × (old.links ≡ l ∷ new.links)
     × (new ≡ record old { told = new.told; links = new.links; calls = counted old.calls 1 })
+Hands old new accept.Idle = ⊥
 Hands old new accept.End =
     (fails_now old ≡ false) × (old.links ≡ []) × (new ≡ record old { told = new.told; calls = counted old.calls 1 })
 Hands old new accept.Failed =

@@ -4,6 +4,8 @@ use Rattle.reql_outside.specs.Tape.{Tape}
 use Rattle.reql_net.specs.declared.tcp.TcpRecord.{TcpRecord}
 use Rattle.reql_net.specs.declared.tcp.Came.{Came}
 use Rattle.reql_net.specs.declared.tcp.Came.TheVariants as came
+use Rattle.reql_net.specs.declared.outbox.Put.{Put}
+use Rattle.reql_net.specs.declared.outbox.Put.TheVariants as put
 
 -- the tape of a link over TCP, which tells no byte
 abbrev pub tape_of : TcpRecord → Tape
@@ -21,3 +23,9 @@ abbrev pub CameFits : Came → ℕ → Type 0
 CameFits (came.Bytes n) room = n ≤ room
 CameFits came.Nothing room = Unit {0}
 CameFits came.Broken room = Unit {0}
+
+-- a write took at least one byte and at most so many
+abbrev pub PutFits : Put → ℕ → Type 0
+PutFits (put.Bytes n) room = (1 ≤ n) × (n ≤ room)
+PutFits put.Full room = Unit {0}
+PutFits put.Failed room = Unit {0}

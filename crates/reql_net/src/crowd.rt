@@ -6,7 +6,7 @@ use std::sync::atomic::AtomicU64;
 use std::sync::atomic::Ordering::SeqCst;
 use std::time::Instant;
 
-// How long nothing more is said of all workers being taken, once it was said.
+// How long nothing more is said of clients for whom there is no place, or of workers that end, once it was said.
 const QUIET_SECONDS: u64 = 60;
 
 // Why a version is refused, and how drivers ask for another.
@@ -22,13 +22,16 @@ pub(crate) struct Crowd {
     workers: AtomicU64,
     served: AtomicU64,
     since: Instant,
-    // the second, from the first on, until which nothing is said of all workers being taken
-    quiet_until: AtomicU64,
+    // the seconds, from the first on, until which nothing is said of clients for whom there is no place, and of workers
+    // that end
+    full_until: AtomicU64,
+    ends_until: AtomicU64,
 }
 
 // Why a client left, where that is worth a line. One that took its leave between two requests isn't.
-fn reason(how: Parting, was_late: bool) -> Option<&'static str> {
+fn reason(how: Parting, was_late: bool, was_unsent: bool) -> Option<&'static str> {
     match how {
+        Parting::ReadFault if was_unsent => Some("ended: a send failed"),
         Parting::Closed if was_late => Some("left out: no greeting came in time"),
         Parting::Cut if was_late => {
             Some("left out: the rest of its greeting or of a request didn't come in time")
@@ -63,32 +66,41 @@ impl Crowd {
             workers: AtomicU64::new(workers as u64),
             served: AtomicU64::new(0),
             since: Instant::now(rt)?,
-            quiet_until: AtomicU64::new(0),
+            full_until: AtomicU64::new(0),
+            ends_until: AtomicU64::new(0),
         })
     }
 
     /// One more client is served.
-    pub(crate) fn enters(&self, rt: &HostRuntime) {
-        let before = self.served.fetch_add(1, SeqCst);
-        let workers = self.workers.load(SeqCst);
-        if self.tells && before.saturating_add(1) >= workers && self.may_say(rt) {
+    pub(crate) fn enters(&self) {
+        self.served.fetch_add(1, SeqCst);
+    }
+
+    /// Whether all workers serve a client.
+    pub(crate) fn is_full(&self) -> bool {
+        self.served.load(SeqCst) >= self.workers.load(SeqCst)
+    }
+
+    /// A client is turned away, since all workers serve one.
+    pub(crate) fn turns_away(&self, rt: &HostRuntime, client: SocketAddr) {
+        if self.tells && self.may_say(rt, &self.full_until) {
+            let workers = self.workers.load(SeqCst);
             let _ = eprintln!(rt;
-                "reqld: all {workers} workers serve a client now; one more waits until one of them ends (--workers)"
+                "reqld: client {client} refused: {workers} clients are served, and no more at once (--clients)"
             );
         }
     }
 
     // Whether it wasn't said lately.
-    fn may_say(&self, rt: &HostRuntime) -> bool {
+    fn may_say(&self, rt: &HostRuntime, quiet_until: &AtomicU64) -> bool {
         let Ok(time) = self.since.elapsed(rt) else {
             return false;
         };
         let now = time.as_secs();
-        if now < self.quiet_until.load(SeqCst) {
+        if now < quiet_until.load(SeqCst) {
             return false;
         }
-        self.quiet_until
-            .store(now.saturating_add(QUIET_SECONDS), SeqCst);
+        quiet_until.store(now.saturating_add(QUIET_SECONDS), SeqCst);
         true
     }
 
@@ -99,23 +111,30 @@ impl Crowd {
         client: SocketAddr,
         how: Parting,
         was_late: bool,
+        was_unsent: bool,
     ) {
         self.served.fetch_sub(1, SeqCst);
         if !self.tells {
             return;
         }
-        if let Some(why) = reason(how, was_late) {
+        if let Some(why) = reason(how, was_late, was_unsent) {
             let _ = eprintln!(rt; "reqld: client {client} {why}");
         }
     }
 
-    /// A worker takes no more clients.
+    /// A worker takes no more clients. That it has served its share is said of the last one alone.
     pub(crate) fn shrinks(&self, rt: &HostRuntime, why: Rest) {
-        let before = self.workers.fetch_sub(1, SeqCst);
+        let left = self.workers.fetch_sub(1, SeqCst).saturating_sub(1);
         if !self.tells {
             return;
         }
-        let (left, why) = (before.saturating_sub(1), rest_reason(why));
-        let _ = eprintln!(rt; "reqld: a worker ended: {why}; {left} go on");
+        let may_say = match why {
+            Rest::Done | Rest::Over => left == 0,
+            Rest::Failed | Rest::Memory => left == 0 || self.may_say(rt, &self.ends_until),
+        };
+        if may_say {
+            let why = rest_reason(why);
+            let _ = eprintln!(rt; "reqld: a worker ended: {why}; {left} go on");
+        }
     }
 }

@@ -2,13 +2,17 @@
 ghost use Rattle.std.specs.Prelude.{◌≡◌};
 ghost use Rattle.reql_net.specs.Doors.{DoorTold, Opens};
 
+use crate::watch::Watch;
 use reql_outside::Link;
+use std::alloc::Global;
 
 /// What one `accept` answers.
 #[derive(Drop)]
 pub enum Accept<L> {
     /// The link to the next client. It is fresh.
     Link(L),
+    /// No client is there now.
+    Idle,
     /// No client comes any more.
     End,
     /// An error came, and `faults` rose by one, as with no other answer.
@@ -53,17 +57,24 @@ pub enum Rest {
     Memory,
 }
 
-/// Where a worker's links come from, one after another.
+/// Where a worker's links come from, one after another. A thread serves the links of many doors by turns, and a watch tells
+/// it whose turn it is.
 ///
 /// A count that stands at 2^64 - 1 counts as risen: it stays there.
 pub trait Door {
-    type Link: Link;
+    type Link: Link + Drop;
+
+    type Watch: Watch<Self::Link> + Drop;
 
     /// What the door tells of itself: how many links it gave, whether it has answered `End` or `Failed`,
     /// whether it has answered `Failed`, and how often.
     ghost told: { Self → DoorTold };
 
-    /// Waits for the next client.
+    /// A watch for the thread that serves so many doors, of which this is the first. None: memory or a
+    /// descriptor was wanted.
+    fn watch(&self, _alloc: Global, _places: usize) -> Option<Self::Watch>;
+
+    /// The next client, where one is there now or comes soon.
     fn accept(&mut self) -> Accept<Self::Link>
         ensures { Opens Self.Link.tape (told self.old) (told self.new) result };
 

@@ -10,6 +10,7 @@ ghost use Rattle.reql_net.specs.Posts.{blank_post, stocked, HandsOut, HandsNone}
 use crate::asked::Asked;
 use crate::door::{Accept, Door};
 use crate::net::{Net, NetFault, Post};
+use crate::watch::Rounds;
 use reql_memory::Memory;
 use reql_outside::{MemClock, MemDice, MemLink};
 use std::alloc::Global;
@@ -67,7 +68,13 @@ impl MemDoor {
 impl Door for MemDoor {
     type Link = MemLink;
 
+    type Watch = Rounds;
+
     ghost told = { λ d. d.told };
+
+    fn watch(&self, _alloc: Global, _places: usize) -> Option<Rounds> {
+        Some(Rounds::new())
+    }
 
     fn accept(&mut self) -> Accept<MemLink>
         ensures told { Opens (λ l. l.tape) self.old.told self.new.told result }

@@ -50,6 +50,24 @@ impl Pace {
         }
     }
 
+    /// When the client will have taken too long for what it owes, if it owes anything.
+    pub(crate) fn due(&self) -> Option<Instant> {
+        match self.expected {
+            Expected::Frame => None,
+            Expected::Greeting => self
+                .since
+                .checked_add(Duration::from_secs(GREETING_SECONDS)),
+            Expected::Rest => self.since.checked_add(Duration::from_secs(REST_SECONDS)),
+        }
+    }
+
+    /// The client is listened to again, after a time in which it wasn't.
+    pub(crate) fn resumes(&mut self, rt: &HostRuntime) {
+        if self.expected == Expected::Rest {
+            self.begin(rt);
+        }
+    }
+
     // A client that sends enough gets as much time again.
     fn is_slow(&mut self, rt: &HostRuntime) -> bool {
         if !self.lasts(rt, REST_SECONDS) {

@@ -2,19 +2,22 @@ ghost use Rattle.std.specs.Prelude.{◌≡◌, ◌<◌, ◌≤◌, length, IfOk}
 ghost use Rattle.reql_net.specs.Tcp.{CameFits};
 ghost use Rattle.reql_outside.specs.Tape.{IsFresh, Receives, RecvFits, SendFits, Sends};
 
-use crate::ear::{Ear, Woken};
+use crate::lanes::{Lanes, channel_of};
+use crate::outbox::{Flushed, Outbox, Put, write_within};
 use crate::pace::Pace;
+use mio::net::TcpStream;
 use reql_outside::{Expected, Link, Recv, Sending};
-use std::io::{self, ErrorKind, Read, Write};
+use std::alloc::Global;
+use std::io::{self, ErrorKind, Read};
 use std::marker::Model;
-use std::net::TcpStream;
-use std::time::{Duration, Instant};
+use std::os::fd::{AsRawFd, RawFd};
+use std::sync::Arc;
+use std::sync::atomic::AtomicUsize;
+use std::sync::atomic::Ordering::SeqCst;
+use std::time::Instant;
 
-// How long a receive waits.
-const READ_MILLIS: u64 = 20;
-
-// How long a send waits for a client that doesn't read.
-const WRITE_SECONDS: u64 = 30;
+// The lane of a link that no thread serves by turns.
+const NO_LANE: usize = usize::MAX;
 
 /// The counts of a link over TCP.
 #[derive(Clone, Copy, Debug, PartialEq, Eq)]
@@ -29,21 +32,38 @@ pub struct TcpRecord {
     pub over: bool,
     /// Whether it ended because the client took too long.
     pub late: bool,
+    /// Whether the client didn't take what it was sent.
+    pub unsent: bool,
 }
 
-/// A link over a TCP socket. It tells no bytes.
+/// A link over a TCP socket. It tells no bytes, and never waits.
 ///
-/// A `recv` is idle after 20 milliseconds, or at once where its session waits for a change and the
-/// bell rings. The input ends where the greeting and the login aren't whole 10 seconds after the client
-/// was accepted, and where less than 30 KiB of a frame that has begun come in 30 seconds. A `send` to a
-/// client that reads nothing for 30 seconds fails; to one that is gone it fails at once, and raises no
-/// signal.
+/// A `recv` is idle where nothing has come. Behind a watch it asks the system only where the watch has seen
+/// something come. The input ends where the greeting and the login aren't whole 10 seconds after the client was accepted, and
+/// where less than 30 KiB of a frame that has begun come in 30 seconds.
+///
+/// What a client doesn't take at once waits for it, up to the bytes of the longest answer. Where it takes none of that for 30
+/// seconds, or is gone, this `send` or the next call fails; that raises no signal.
 #[derive(Drop)]
 pub struct TcpLink {
     rt: HostRuntime,
     stream: TcpStream,
-    ear: Ear,
+    lanes: Arc<Lanes, Global>,
+    // the lane of the thread that serves it
+    lane: AtomicUsize,
     pub(crate) pace: Pace,
+    pub(crate) outbox: Outbox,
+    // whether something may have come, and whether the client will send no more
+    readable: bool,
+    closing: bool,
+    // whether a table may have changed that its session waited for in its last turn
+    rung: bool,
+    // whether its session found nothing to hear in its last turn
+    quiet: bool,
+    // the channels that its session waits for
+    wanted: u32,
+    // whether each further call fails
+    broken: bool,
     counts: TcpRecord,
 }
 
@@ -73,7 +93,7 @@ fn read_within<R: Read>(input: &mut R, buf: &mut [u8]) -> Came
             Ok(n) => return Came::Bytes(n),
             Err(e) => match e.kind() {
                 ErrorKind::Interrupted => {}
-                ErrorKind::WouldBlock | ErrorKind::TimedOut => return Came::Nothing,
+                ErrorKind::WouldBlock => return Came::Nothing,
                 _ => return Came::Broken,
             },
         }
@@ -81,55 +101,172 @@ fn read_within<R: Read>(input: &mut R, buf: &mut [u8]) -> Came
     Came::Broken
 }
 
-// One write, tried again where a signal cuts it off: how many bytes were taken, or 0 for an error.
-fn write_within<W: Write>(output: &mut W, piece: &[u8]) -> usize
-    ensures { result ≤ length piece.now }
-{
-    for _ in 0..u64::MAX {
-        match output.write(piece) {
-            Ok(n) => return n,
-            Err(e) if e.kind() == ErrorKind::Interrupted => {}
-            Err(_) => return 0,
-        }
-    }
-    0
+/// What was seen of a link between two of its turns.
+#[derive(Clone, Copy)]
+pub(crate) struct Signs {
+    /// Something may have come.
+    pub(crate) readable: bool,
+    /// The client will send no more, or the socket has failed.
+    pub(crate) closing: bool,
+    /// A table may have changed that its session waits for.
+    pub(crate) rung: bool,
+    /// Nothing can be seen of it.
+    pub(crate) lost: bool,
 }
 
 impl TcpLink {
     /// A link over the socket of a client that is accepted now.
-    pub(crate) fn new(rt: HostRuntime, stream: TcpStream, ear: Ear) -> io::Result<TcpLink>
+    pub(crate) fn new(
+        rt: HostRuntime,
+        stream: TcpStream,
+        lanes: Arc<Lanes, Global>,
+    ) -> io::Result<TcpLink>
         ensures fresh { IfOk result (λ l. IsFresh l) }
     {
         stream.set_nodelay(true)?;
-        stream.set_read_timeout(Some(Duration::from_millis(READ_MILLIS)))?;
-        stream.set_write_timeout(Some(Duration::from_secs(WRITE_SECONDS)))?;
-        let pace = Pace::new(Instant::now(&rt)?);
+        let now = Instant::now(&rt)?;
         Ok(TcpLink {
             rt,
             stream,
-            ear,
-            pace,
+            lanes,
+            lane: AtomicUsize::new(NO_LANE),
+            pace: Pace::new(now),
+            outbox: Outbox::new(rt.alloc(), now),
+            readable: false,
+            closing: false,
+            rung: false,
+            quiet: true,
+            wanted: 0,
+            broken: false,
             counts: TcpRecord {
                 faults_in: 0,
                 faults_out: 0,
                 idles: 0,
                 over: false,
                 late: false,
+                unsent: false,
             },
         })
     }
 
-    // A link whose session waits for a change waits for the bell too. False: nothing to read.
-    fn hears(&mut self) -> bool
-        ensures { self.new ≡ self.old }
+    /// The link is served by the thread of this lane.
+    pub(crate) fn joins(&self, lane: usize) {
+        self.lane.store(lane, SeqCst);
+    }
+
+    pub(crate) fn descriptor(&self) -> RawFd {
+        self.stream.as_raw_fd()
+    }
+
+    /// Whether a turn of its session is worth while, after these signs. Where its client hasn't taken what it was sent, it isn't.
+    pub(crate) fn wakes(&mut self, signs: Signs) -> bool
+        ensures still { self.new ≡ self.old }
     {
-        if !self.ear.listens() {
+        self.readable = self.readable || signs.readable;
+        self.closing = self.closing || signs.closing;
+        self.rung = self.rung || signs.rung;
+        self.broken = self.broken || signs.lost;
+        if !self.flushes() {
+            return self.broken;
+        }
+        let has_cause = self.readable || self.broken || self.rung;
+        let wakes = has_cause || !self.quiet || self.pace.is_over(&self.rt);
+        if wakes {
+            self.rung = false;
+            self.quiet = false;
+            self.wanted = 0;
+        }
+        wakes
+    }
+
+    /// When its session has to be woken though nothing came.
+    pub(crate) fn due(&self) -> Option<Instant> {
+        match self.outbox.due() {
+            Some(due) => Some(due),
+            None => self.pace.due(),
+        }
+    }
+
+    /// Whether something waits until its client takes it.
+    pub(crate) fn is_blocked(&self) -> bool {
+        !self.outbox.is_empty()
+    }
+
+    /// Whether its session found nothing to hear in its last turn.
+    pub(crate) fn is_quiet(&self) -> bool {
+        self.quiet
+    }
+
+    /// The channels that its session waits for.
+    pub(crate) fn wanted(&self) -> u32 {
+        self.wanted
+    }
+
+    // Sends what waits, as far as the client takes it now. False: something still waits, or that has failed.
+    fn flushes(&mut self) -> bool
+        ensures still { self.new ≡ self.old }
+    {
+        if self.outbox.is_empty() {
             return true;
         }
-        match self.ear.wait(READ_MILLIS) {
-            Woken::Socket => true,
-            Woken::Bell => false,
+        match self.outbox.flush(&self.rt, &mut self.stream) {
+            Flushed::Whole => {
+                self.pace.resumes(&self.rt);
+                true
+            }
+            Flushed::Part => false,
+            Flushed::Failed => {
+                self.broken = true;
+                self.counts.unsent = true;
+                false
+            }
         }
+    }
+
+    // How many bytes of a piece were taken, or wait now; 0 for an error.
+    fn post(&mut self, piece: &[u8]) -> usize
+        ensures room { result ≤ length piece.now }
+        ensures still { self.new ≡ self.old }
+    {
+        if self.broken {
+            return 0;
+        }
+        if !self.outbox.is_empty() {
+            return self.keep(piece);
+        }
+        match write_within(&mut self.stream, piece) {
+            Put::Bytes(n) => n,
+            Put::Full => self.keep(piece),
+            Put::Failed => 0,
+        }
+    }
+
+    fn keep(&mut self, piece: &[u8]) -> usize
+        ensures room { result ≤ length piece.now }
+        ensures still { self.new ≡ self.old }
+    {
+        if self.outbox.put(&self.rt, piece) {
+            piece.len()
+        } else {
+            0
+        }
+    }
+
+    // Reads where something may have come, or where nobody looks whether it has.
+    fn reads(&mut self, buf: &mut [u8]) -> Came
+        ensures fits { CameFits result (length buf.old) }
+        ensures still { self.new ≡ self.old }
+    {
+        if !self.readable && self.lane.load(SeqCst) != NO_LANE {
+            return Came::Nothing;
+        }
+        let came = read_within(&mut self.stream, buf);
+        self.readable = match came {
+            // a client that goes on sending is seen to
+            Came::Bytes(n) => n == buf.len() || self.closing,
+            Came::Nothing | Came::Broken => false,
+        };
+        came
     }
 }
 
@@ -150,17 +287,16 @@ impl Link for TcpLink {
         if self.counts.over {
             return Recv::End;
         }
+        if self.broken {
+            self.counts.faults_in = self.counts.faults_in.saturating_add(1);
+            return Recv::Failed;
+        }
         if self.pace.is_over(&self.rt) {
             self.counts.over = true;
             self.counts.late = true;
             return Recv::End;
         }
-        let came = if self.hears() {
-            read_within(&mut self.stream, buf)
-        } else {
-            Came::Nothing
-        };
-        match came {
+        match self.reads(buf) {
             Came::Bytes(0) => {
                 self.counts.over = true;
                 Recv::End
@@ -170,6 +306,7 @@ impl Link for TcpLink {
                 Recv::Got(n)
             }
             Came::Nothing => {
+                self.quiet = true;
                 self.counts.idles = self.counts.idles.saturating_add(1);
                 Recv::Idle
             }
@@ -185,7 +322,7 @@ impl Link for TcpLink {
         ensures fits { SendFits result (length piece.now) }
         ensures told { Sends self.old self.new piece.now result }
     {
-        let taken = write_within(&mut self.stream, piece);
+        let taken = self.post(piece);
         if taken == 0 {
             self.counts.faults_out = self.counts.faults_out.saturating_add(1);
             return Sending::Failed;
@@ -202,23 +339,37 @@ impl Link for TcpLink {
     fn awaits(&mut self, slot: u32)
         ensures still { self.new ≡ self.old }
     {
-        self.ear.awaits(slot);
+        let channel = channel_of(slot);
+        self.wanted |= channel;
+        if let Some(lane) = self.lanes.get(self.lane.load(SeqCst)) {
+            lane.hear(channel);
+        }
     }
 
     fn changed(&mut self, slot: u32)
         ensures still { self.new ≡ self.old }
     {
-        self.ear.changed(slot);
+        self.lanes.ring(channel_of(slot), self.lane.load(SeqCst));
     }
 
     fn finish(self) -> TcpRecord {
+        let mut link = self;
+        link.flushes();
         let TcpLink {
             rt: _,
             stream: _,
-            ear: _,
+            lanes: _,
+            lane: _,
             pace: _,
+            outbox: _,
+            readable: _,
+            closing: _,
+            rung: _,
+            quiet: _,
+            wanted: _,
+            broken: _,
             counts,
-        } = self;
+        } = link;
         counts
     }
 }

@@ -6,29 +6,27 @@ ghost use Rattle.reql_net.specs.Doors.{untouched};
 ghost use Rattle.reql_net.specs.Nets.{IsUntouched, unasked};
 
 use crate::asked::Asked;
-use crate::bell::Bell;
 use crate::crowd::Crowd;
 use crate::door::{Accept, Door, Parting, Rest};
-use crate::ear::Ear;
+use crate::gate::{Gate, Knock};
+use crate::lanes::Lanes;
 use crate::net::{Net, NetFault, Post};
 use crate::tcp::{TcpLink, TcpRecord};
+use crate::tcp_watch::TcpWatch;
+use mio::net::{TcpListener, TcpStream};
 use reql_outside::{OsClock, OsDice};
 use std::alloc::Global;
 use std::io::{self, ErrorKind};
 use std::marker::Model;
-use std::net::{Ipv4Addr, SocketAddr, SocketAddrV4, TcpListener, TcpStream};
-use std::os::fd::AsRawFd;
+use std::net::{Ipv4Addr, SocketAddr, SocketAddrV4};
 use std::sync::Arc;
-use std::thread;
-use std::time::Duration;
 
 /// The door of one worker: it takes its clients from the listener that all doors of a net share.
 #[derive(Drop)]
 pub struct TcpDoor {
     rt: HostRuntime,
-    listener: TcpListener,
-    bell: Arc<Bell, Global>,
-    crowd: Arc<Crowd, Global>,
+    gate: Arc<Gate, Global>,
+    lanes: Arc<Lanes, Global>,
     // the client of its last link, until its session ends
     client: Option<SocketAddr>,
     gave: u64,
@@ -44,73 +42,65 @@ impl Model for TcpDoor {
     ghost view = { λ d. record { gave = d.gave; over = d.broken; broken = d.broken; faults = d.faults } };
 }
 
-// How long a door rests where a client can't be set up now, for want of descriptors or memory.
-const REST_MILLIS: u64 = 50;
-
-// Whether the next accept may do better at once: a signal came, or a client left before it was taken.
-fn passes(kind: ErrorKind) -> bool {
-    kind == ErrorKind::Interrupted || kind == ErrorKind::ConnectionAborted
-}
-
-// Whether the listener itself is of no use any more: it is closed (EBADF), doesn't listen (EINVAL), or
-// is no socket (ENOTSOCK, EOPNOTSUPP).
-fn is_final(error: &io::Error) -> bool {
-    matches!(error.raw_os_error(), Some(9 | 22 | 88 | 95))
-}
+// The listener is of no use any more.
+struct Closed;
 
 impl TcpDoor {
     /// The port of the listener.
     pub fn port(&self) -> io::Result<u16> {
-        Ok(self.listener.local_addr()?.port())
+        self.gate.port()
     }
 
     fn link(&self, stream: TcpStream) -> io::Result<TcpLink>
         ensures { IfOk result (λ l. IsFresh l) }
     {
-        let bell = Arc::try_clone(&self.bell)?;
-        let ear = Ear::new(self.rt.alloc(), &self.rt, bell, stream.as_raw_fd())?;
-        let link = TcpLink::new(self.rt, stream, ear)?;
+        let lanes = Arc::try_clone(&self.lanes)?;
+        let link = TcpLink::new(self.rt, stream, lanes)?;
         Ok(link)
     }
 
-    // The next client that can be set up. One that left again, or for which there is no descriptor or
-    // memory now, is passed over.
-    fn next_link(&self) -> Option<(TcpLink, SocketAddr)>
-        ensures { IfSome result (λ l. IsFresh l.0) }
+    // The next client that is there and can be set up. One that left again, or that can't be, is passed over.
+    fn next_link(&self) -> Result<Option<(TcpLink, SocketAddr)>, Closed>
+        ensures { IfOk result (λ found. IfSome found (λ l. IsFresh l.0)) }
     {
         for _ in 0..u64::MAX {
-            match self.listener.accept() {
-                Ok((stream, client)) => match self.link(stream) {
-                    Ok(link) => return Some((link, client)),
-                    Err(_) => self.rest(),
-                },
-                Err(e) if is_final(&e) => return None,
-                Err(e) if passes(e.kind()) => {}
-                Err(_) => self.rest(),
+            match self.gate.take() {
+                Knock::Client(stream, client) => {
+                    if let Ok(link) = self.link(stream) {
+                        return Ok(Some((link, client)));
+                    }
+                }
+                Knock::Nobody => return Ok(None),
+                Knock::Broken => return Err(Closed),
             }
         }
-        None
-    }
-
-    fn rest(&self) {
-        thread::sleep(&self.rt, Duration::from_millis(REST_MILLIS));
+        Ok(None)
     }
 }
 
 impl Door for TcpDoor {
     type Link = TcpLink;
 
+    type Watch = TcpWatch;
+
     ghost told = { λ d. d };
+
+    fn watch(&self, alloc: Global, places: usize) -> Option<TcpWatch> {
+        let gate = Arc::try_clone(&self.gate).ok()?;
+        let lanes = Arc::try_clone(&self.lanes).ok()?;
+        TcpWatch::new(self.rt, alloc, gate, lanes, places).ok()?
+    }
 
     fn accept(&mut self) -> Accept<TcpLink> {
         match self.next_link() {
-            Some((link, client)) => {
-                self.crowd.enters(&self.rt);
+            Ok(Some((link, client))) => {
+                self.gate.crowd.enters();
                 self.client = Some(client);
                 self.gave = self.gave.saturating_add(1);
                 Accept::Link(link)
             }
-            None => {
+            Ok(None) => Accept::Idle,
+            Err(Closed) => {
                 self.broken = true;
                 self.faults = self.faults.saturating_add(1);
                 Accept::Failed
@@ -122,26 +112,28 @@ impl Door for TcpDoor {
         ensures still { self.new ≡ self.old }
     {
         if let Some(client) = self.client.take() {
-            self.crowd.leaves(&self.rt, client, how, kept.late);
+            self.gate
+                .crowd
+                .leaves(&self.rt, client, how, kept.late, kept.unsent);
         }
     }
 
     fn rests(&mut self, why: Rest)
         ensures still { self.new ≡ self.old }
     {
-        self.crowd.shrinks(&self.rt, why);
+        self.gate.crowd.shrinks(&self.rt, why);
     }
 }
 
-/// A net over TCP on the address 127.0.0.1. The doors of one call share a listener, and all links of
-/// the net one bell. It isn't sound, as the dice and the clock of the system aren't.
+/// A net over TCP on the address 127.0.0.1. The doors of one call share a listener, and all threads that serve links of the
+/// net wake one another where a table changes. It isn't sound, as the dice and the clock of the system aren't.
 ///
-/// It may tell what comes of its clients: a line on standard error for each that is refused or ends by
-/// a fault, for each worker that ends, and at most once a minute that all workers are taken.
+/// It may tell what comes of its clients: a line on standard error for each that is refused or ends by a fault, for workers
+/// that end, and at most once a minute that a client was turned away since all workers are taken.
 #[derive(Drop)]
 pub struct TcpNet {
     rt: HostRuntime,
-    bell: Arc<Bell, Global>,
+    lanes: Arc<Lanes, Global>,
     // what is said when clients can connect, where the net tells anything
     opening: Option<String>,
     told: Asked,
@@ -162,23 +154,22 @@ impl TcpNet {
         ensures { IfOk result (λ n. n ≡ unasked false) }
     {
         let alloc = rt.alloc();
-        let bell = Arc::new(alloc, Bell::new(alloc, &rt)?)?;
+        let lanes = Arc::new(alloc, Lanes::new(alloc)?)?;
         Ok(TcpNet {
             rt,
-            bell,
+            lanes,
             opening,
             told: Asked::new(),
         })
     }
 
-    fn door(&self, listener: &TcpListener, crowd: &Arc<Crowd, Global>) -> io::Result<TcpDoor>
+    fn door(&self, gate: &Arc<Gate, Global>) -> io::Result<TcpDoor>
         ensures { IfOk result (λ d. d ≡ untouched) }
     {
         Ok(TcpDoor {
             rt: self.rt,
-            listener: listener.try_clone()?,
-            bell: Arc::try_clone(&self.bell)?,
-            crowd: Arc::try_clone(crowd)?,
+            gate: Arc::try_clone(gate)?,
+            lanes: Arc::try_clone(&self.lanes)?,
             client: None,
             gave: 0,
             broken: false,
@@ -193,6 +184,26 @@ impl TcpNet {
         }
     }
 
+    // The listener of a port, behind which so many clients are served at once.
+    fn gate(&self, alloc: Global, port: u16, n: u32) -> io::Result<Arc<Gate, Global>> {
+        let address = SocketAddr::V4(SocketAddrV4::new(Ipv4Addr::LOCALHOST, port));
+        let listener = TcpListener::bind(&self.rt, address)?;
+        let crowd = Crowd::new(&self.rt, self.opening.is_some(), n)?;
+        let gate = Arc::new(alloc, Gate::new(listener, crowd))?;
+        Ok(gate)
+    }
+
+    fn post(&self, gate: &Arc<Gate, Global>) -> io::Result<Post<TcpDoor, OsDice, OsClock>>
+        ensures { IfOk result (λ post. post.door ≡ untouched) }
+    {
+        let door = self.door(gate)?;
+        Ok(Post {
+            door,
+            dice: OsDice::new(self.rt),
+            clock: OsClock::new(self.rt),
+        })
+    }
+
     fn posts(
         &self,
         alloc: Global,
@@ -202,17 +213,10 @@ impl TcpNet {
         ensures count { IfOk result (λ posts. length posts.items ≡ n) }
         ensures untouched { IfOk result (λ posts. All (IsUntouched (λ d. d)) posts.items) }
     {
-        let address = SocketAddr::V4(SocketAddrV4::new(Ipv4Addr::LOCALHOST, port));
-        let listener = TcpListener::bind(&self.rt, address)?;
-        let crowd = Arc::new(alloc, Crowd::new(&self.rt, self.opening.is_some(), n)?)?;
+        let gate = self.gate(alloc, port, n)?;
         let mut posts = Vec::new(alloc);
         for _ in 0..n {
-            let door = self.door(&listener, &crowd)?;
-            posts.push(Post {
-                door,
-                dice: OsDice::new(self.rt),
-                clock: OsClock::new(self.rt),
-            })?;
+            posts.push(self.post(&gate)?)?;
         }
         Ok(posts)
     }
