@@ -18,12 +18,12 @@ use Rattle.reql_words.specs.declared.words.Wanted.{Wanted}
 use Rattle.reql_words.specs.declared.words.Wanted.TheVariants as wanted
 
 -- what the words ask for; sessions are served by a key and a password, with tables by database and name, one of them over standard
--- input and output, or on a port so many at once and so many in all, and quietly or not; or the words have to say what stands in this
+-- input and output, or on a port by so many workers, so many at once and so many in all, and quietly or not; or the words have to say what stands in this
 -- file before they ask for sessions; a load has a seed and a size; in place of a word that is not within, a number from the least to the
 -- most is wanted
 pub data Asks : Type 0 where
   Stdio : List ℕ → List ℕ → List (List ℕ × List ℕ) → Asks
-  Listen : ℕ → ℕ → ℕ → List ℕ → List ℕ → Bool → List (List ℕ × List ℕ) → Asks
+  Listen : ℕ → ℕ → ℕ → ℕ → List ℕ → List ℕ → Bool → List (List ℕ × List ℕ) → Asks
   PasswordFile : List ℕ → Asks
   Load : ℕ → ℕ → Asks
   Help : Asks
@@ -43,6 +43,7 @@ pub record Said : Type 0 where
   pub tables : List (List ℕ × List ℕ)
   pub port : Option ℕ
   pub workers : Option ℕ
+  pub clients : Option ℕ
   pub sessions : Option ℕ
   pub quiet : Bool
 
@@ -55,6 +56,7 @@ said_nothing server = record {
   tables = [];
   port = None;
   workers = None;
+  clients = None;
   sessions = None;
   quiet = false;
 }
@@ -140,12 +142,15 @@ abbrev pub put : Result ℕ Asks → (ℕ → Said) → Result Said Asks
 put (Ok n) said = Ok (said n)
 put (Err a) said = Err a
 
--- port 1 to 65535, 1 to 64 workers, 1 to 4294967295 sessions
+-- port 1 to 65535, 1 to 64 workers, 1 to 4096 clients at once, 1 to 4294967295 sessions
 abbrev pub with_port : List ℕ → List ℕ → Said → Result Said Asks
 with_port word value said = put (number_once word value (is_none said.port) 1 65535) (λ n. record said { port = Some n })
 
 abbrev pub with_workers : List ℕ → List ℕ → Said → Result Said Asks
 with_workers word value said = put (number_once word value (is_none said.workers) 1 64) (λ n. record said { workers = Some n })
+
+abbrev pub with_clients : List ℕ → List ℕ → Said → Result Said Asks
+with_clients word value said = put (number_once word value (is_none said.clients) 1 4096) (λ n. record said { clients = Some n })
 
 abbrev pub with_sessions : List ℕ → List ℕ → Said → Result Said Asks
 with_sessions word value said = put (number_once word value (is_none said.sessions) 1 4294967295) (λ n. record said { sessions = Some n })
@@ -156,7 +161,8 @@ with_number servers.Stdio word value said = Err (Wrong word)
 with_number servers.Listen word value said =
     cond (bytes_eq word (codes "--port")) (with_port word value said)
     (cond (bytes_eq word (codes "--workers")) (with_workers word value said)
-    (cond (bytes_eq word (codes "--sessions")) (with_sessions word value said) (Err (Wrong word))))
+    (cond (bytes_eq word (codes "--clients")) (with_clients word value said)
+    (cond (bytes_eq word (codes "--sessions")) (with_sessions word value said) (Err (Wrong word)))))
 
 abbrev pub with_option : List ℕ → List ℕ → Said → Result Said Asks
 with_option word value said =
@@ -193,7 +199,8 @@ lacks_number servers.Stdio word said = Wrong word
 lacks_number servers.Listen word said =
     cond (bytes_eq word (codes "--port") && is_none said.port) (Missing wanted.Port)
     (cond (bytes_eq word (codes "--workers") && is_none said.workers) (Missing wanted.Workers)
-    (cond (bytes_eq word (codes "--sessions") && is_none said.sessions) (Missing wanted.Sessions) (Wrong word)))
+    (cond (bytes_eq word (codes "--clients") && is_none said.clients) (Missing wanted.Clients)
+    (cond (bytes_eq word (codes "--sessions") && is_none said.sessions) (Missing wanted.Sessions) (Wrong word))))
 
 abbrev pub lacks_value : List ℕ → Said → Asks
 lacks_value word said =
@@ -203,12 +210,12 @@ lacks_value word said =
     (cond (bytes_eq word (codes "--password-file") && no_password said) (Missing wanted.PasswordFile) (lacks_number said.server word said))))
 
 -- All options are said. Without a key it is empty, and so is the password; without a port it is 28015, which drivers use where none is
--- said; without more, 4 workers serve as many sessions as may be.
+-- said; without more, 4 workers serve 1024 clients at once, and as many sessions as may be.
 abbrev pub serves_by : Server → Said → Asks
 serves_by servers.Stdio said = Stdio (unwrap_or said.key []) (unwrap_or said.password []) said.tables
 serves_by servers.Listen said =
-    Listen (unwrap_or said.port 28015) (unwrap_or said.workers 4) (unwrap_or said.sessions 4294967295) (unwrap_or said.key [])
-    (unwrap_or said.password []) said.quiet said.tables
+    Listen (unwrap_or said.port 28015) (unwrap_or said.workers 4) (unwrap_or said.clients 1024) (unwrap_or said.sessions 4294967295)
+    (unwrap_or said.key []) (unwrap_or said.password []) said.quiet said.tables
 
 -- where a password stands in a file, that comes first
 abbrev pub serves_from : Option (List ℕ) → Said → Asks
@@ -298,7 +305,7 @@ refused (refuses.Missing what) = Missing what
 
 abbrev pub Says : Asks → Command → Type 0
 Says a (says.Stdio key password tables) = a ≡ Stdio key.now password.now (map named tables.items)
-Says a (says.Listen port workers sessions key password quiet tables) = a ≡ Listen port workers sessions key.now password.now quiet (map named tables.items)
+Says a (says.Listen port workers clients sessions key password quiet tables) = a ≡ Listen port workers clients sessions key.now password.now quiet (map named tables.items)
 Says a (says.PasswordFile path) = a ≡ PasswordFile path.now
 Says a (says.Load seed size) = a ≡ Load seed size
 Says a says.Help = a ≡ Help
@@ -315,6 +322,7 @@ said_of o = record {
   tables = map named o.tables.items;
   port = o.port;
   workers = o.workers;
+  clients = o.clients;
   sessions = o.sessions;
   quiet = o.quiet;
 }

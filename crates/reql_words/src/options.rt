@@ -1,6 +1,6 @@
 // The options of a command, one after another.
 ghost use Rattle.std.specs.Prelude.{◌≡◌, ◌≤◌, map, string_bytes, is_none, option_map, unwrap_or, IfOk, []};
-ghost use Rattle.reql_words.specs.Words.{Missing, Numbers, Says, SaysAll, Steps, asks_options, is_whole, lacks_number, lacks_value, no_password, number_once, refused, said_nothing, said_of, serves, serves_by, value_in, with_file, with_key, with_number, with_option, with_password, with_port, with_quiet, with_sessions, with_table, with_whole, with_workers, within_or};
+ghost use Rattle.reql_words.specs.Words.{Missing, Numbers, Says, SaysAll, Steps, asks_options, is_whole, lacks_number, lacks_value, no_password, number_once, refused, said_nothing, said_of, serves, serves_by, value_in, with_clients, with_file, with_key, with_number, with_option, with_password, with_port, with_quiet, with_sessions, with_table, with_whole, with_workers, within_or};
 ghost use Rattle.reql_words.specs.declared.options.Server.TheVariants as servers;
 
 use crate::numbers::number_within;
@@ -26,6 +26,7 @@ pub(crate) struct Options<'a> {
     pub(crate) tables: Tables<'a>,
     pub(crate) port: Option<u16>,
     pub(crate) workers: Option<u32>,
+    pub(crate) clients: Option<u32>,
     pub(crate) sessions: Option<u64>,
     pub(crate) quiet: bool,
 }
@@ -42,6 +43,7 @@ impl<'a> Options<'a> {
             tables: Tables::new(),
             port: None,
             workers: None,
+            clients: None,
             sessions: None,
             quiet: false,
         }
@@ -72,6 +74,7 @@ impl<'a> Options<'a> {
             Server::Listen => Command::Listen {
                 port: self.port.unwrap_or(28_015),
                 workers: self.workers.unwrap_or(4),
+                clients: self.clients.unwrap_or(1024),
                 sessions: self.sessions.unwrap_or(4_294_967_295),
                 key,
                 password,
@@ -226,6 +229,7 @@ fn with_number<'a>(word: &'a str, value: &'a str, said: &mut Options<'a>) -> Res
     match word {
         "--port" => with_port(word, value, said),
         "--workers" => with_workers(word, value, said),
+        "--clients" => with_clients(word, value, said),
         "--sessions" => with_sessions(word, value, said),
         _ => Err(Refusal::Wrong { word }),
     }
@@ -248,6 +252,18 @@ fn with_workers<'a>(
 {
     let workers = number_once(word, value, said.workers.is_none(), 1, 64)?;
     said.workers = Some(workers as u32);
+    Ok(())
+}
+
+fn with_clients<'a>(
+    word: &'a str,
+    value: &'a str,
+    said: &mut Options<'a>,
+) -> Result<(), Refusal<'a>>
+    ensures { Steps (with_clients word.now value.now (said_of said.old)) (said_of said.new) result }
+{
+    let clients = number_once(word, value, said.clients.is_none(), 1, 4096)?;
+    said.clients = Some(clients as u32);
     Ok(())
 }
 
@@ -322,6 +338,9 @@ fn lacks_number<'a>(word: &'a str, said: &Options<'a>) -> Refusal<'a>
     }
     if word == "--workers" && said.workers.is_none() {
         return missing(Wanted::Workers);
+    }
+    if word == "--clients" && said.clients.is_none() {
+        return missing(Wanted::Clients);
     }
     if word == "--sessions" && said.sessions.is_none() {
         return missing(Wanted::Sessions);

@@ -22,6 +22,8 @@ pub enum Wanted {
     Port,
     /// The number of workers after `--workers`.
     Workers,
+    /// The number of clients after `--clients`.
+    Clients,
     /// The number of sessions after `--sessions`.
     Sessions,
     /// The seed after `load`.
@@ -64,12 +66,13 @@ pub enum Command<'a> {
         password: &'a str,
         tables: Tables<'a>,
     },
-    /// Serve so many sessions in all, 1 to 4294967295, as they connect to this port, 1 to 65535, so
-    /// many at a time as there are workers, 1 to 64. Where it is quiet, say nothing of them. The key,
-    /// the password and the tables are as above.
+    /// Serve so many sessions in all, 1 to 4294967295, as they connect to this port, 1 to 65535, by so
+    /// many workers, 1 to 64, and so many clients at once, 1 to 4096. Where it is quiet, say nothing of
+    /// them. The key, the password and the tables are as above.
     Listen {
         port: u16,
         workers: u32,
+        clients: u32,
         sessions: u64,
         key: &'a str,
         password: &'a str,
@@ -95,13 +98,13 @@ pub enum Command<'a> {
 }
 
 /// What the words ask for: `stdio [--key K] [--password P] [--table DB.NAME]..` or
-/// `listen [--port P] [--workers W] [--sessions S] [--quiet] [--key K] [--password P] [--table DB.NAME]..`,
+/// `listen [--port P] [--workers W] [--clients C] [--sessions S] [--quiet] [--key K] [--password P] [--table DB.NAME]..`,
 /// the options in any order, `load SEED SIZE`, `--help`, `-h` or `--version`, each alone. `--key=K` is
 /// taken as `--key K`, and so is every option with a value; `--password-file F` stands for a password. A
 /// key has at most 1024 bytes, a password at most 256, each a printable one of ASCII; there are at most
-/// 256 tables; P is 1 to 65535 and 28015 where it isn't said, W is 1 to 64 and 4 where it isn't said, and
-/// S is 1 to 4294967295, and this where it isn't said; SEED is 0 to 1000000 and SIZE 1 to 20000. It takes
-/// no memory.
+/// 256 tables; P is 1 to 65535 and 28015 where it isn't said, W is 1 to 64 and 4 where it isn't said, C is
+/// 1 to 4096 and 1024 where it isn't said, and S is 1 to 4294967295, and this where it isn't said; SEED is
+/// 0 to 1000000 and SIZE 1 to 20000. It takes no memory.
 pub fn command_of(words: &[String]) -> Command<'_>
     ensures { Says (asks (map string_bytes words.now)) result }
 {

@@ -5,19 +5,20 @@ use std::io;
 pub const VERSION: &str = "reqld 0.1.0";
 
 // What `--help` says, a line each: a script prints them too, from the text of this file.
-const HELP: [&str; 60] = [
+const HELP: [&str; 62] = [
     // help begins
     "reqld: a document database server that speaks RethinkDB's client protocol\n",
     "\n",
     "usage:\n",
     "  reqld stdio [--key KEY] [--password WORD] [--table DB.NAME]..\n",
     "      serves one session over standard input and output\n",
-    "  reqld listen [--port PORT] [--workers N] [--sessions N] [--quiet]\n",
+    "  reqld listen [--port PORT] [--workers N] [--clients N] [--sessions N] [--quiet]\n",
     "      [--key KEY] [--password WORD] [--table DB.NAME]..\n",
     "      serves clients that connect to a port of 127.0.0.1\n",
-    "  reqld query [--port PORT] [--key KEY] [BODY..]\n",
-    "      asks a server, and prints what it answers; reqld query --help says how. This is a program of its\n",
-    "      own, which ./reqld starts\n",
+    "  reqld query [--port PORT] [--key KEY | --password WORD] [BODY..]\n",
+    "  reqld dump --table DB.NAME, reqld restore --table DB.NAME\n",
+    "      asks a server, and prints what it answers; prints the documents of a table; inserts those on the\n",
+    "      standard input. reqld query --help says how. This is a program of its own, which ./reqld starts\n",
     "  reqld load SEED SIZE\n",
     "      serves four sessions of its own at once, which write SIZE documents, 1 to 20000, and follow them\n",
     "      with feeds, and prints how many documents and changes there were, how many feeds, and how many\n",
@@ -39,10 +40,11 @@ const HELP: [&str; 60] = [
     "\n",
     "options of listen alone:\n",
     "  --port PORT      1 to 65535, and 28015 where it isn't said, as drivers have it\n",
-    "  --workers N      so many clients at once, 1 to 64, and 4 where it isn't said; one more waits until\n",
-    "                   one of them ends\n",
+    "  --workers N      so many threads serve the clients, 1 to 64, and 4 where it isn't said\n",
+    "  --clients N      so many clients at once, 1 to 4096, and 1024 where it isn't said; the connection\n",
+    "                   of a further one is closed\n",
     "  --sessions N     the server ends when it has served so many, 1 to 4294967295, and this many where\n",
-    "                   it isn't said; each worker serves an equal part of them\n",
+    "                   it isn't said; each of its places for a client serves an equal part of them\n",
     "  --quiet          nothing is said of clients on standard error; without it there is a line when\n",
     "                   clients can connect, and one for each that is refused or ends by a fault\n",
     "\n",
@@ -72,8 +74,9 @@ const HELP: [&str; 60] = [
 
 /// How words would be right.
 pub const RIGHT: &str = "reqld stdio [--key KEY] [--password WORD] [--table DB.NAME].., \
-    reqld listen [--port PORT] [--workers N] [--sessions N] [--quiet] [--key KEY] [--password WORD] [--table DB.NAME].., \
-    reqld query [--port PORT] [--key KEY] [BODY..], reqld load SEED SIZE, --help or --version";
+    reqld listen [--port PORT] [--workers N] [--clients N] [--sessions N] [--quiet] [--key KEY] [--password WORD] [--table DB.NAME].., \
+    reqld query [--port PORT] [--key KEY | --password WORD] [BODY..], \
+    reqld dump or restore --table DB.NAME, reqld load SEED SIZE, --help or --version";
 
 /// Prints how to use the program.
 pub fn print_help(rt: &HostRuntime) -> io::Result<()> {

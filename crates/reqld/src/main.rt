@@ -76,7 +76,7 @@ fn main(rt: HostRuntime) -> ExitCode {
         Command::Refused(refusal) => complain(&rt, refusal),
         Command::Listen {
             port,
-            workers,
+            clients,
             key,
             password,
             quiet,
@@ -86,7 +86,7 @@ fn main(rt: HostRuntime) -> ExitCode {
             let opening = if quiet {
                 Ok(None)
             } else {
-                opening_line(alloc, port, workers, key, password, tables.as_slice())
+                opening_line(alloc, port, clients, key, password, tables.as_slice())
             };
             let mut net = match net_of(rt, opening) {
                 Ok(net) => net,

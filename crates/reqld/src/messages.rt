@@ -14,6 +14,7 @@ fn wanted(what: Wanted) -> &'static str {
         Wanted::PasswordFile => "a file after --password-file",
         Wanted::Port => "a port, 1 to 65535, after --port",
         Wanted::Workers => "a number of workers, 1 to 64, after --workers",
+        Wanted::Clients => "a number of clients, 1 to 4096, after --clients",
         Wanted::Sessions => "a number of sessions, 1 to 4294967295, after --sessions",
         Wanted::Seed => "a seed, 0 to 1000000, after load",
         Wanted::Size => "a number of documents, 1 to 20000, after the seed",

@@ -36,13 +36,13 @@ fn who(has_key: bool, has_password: bool) -> &'static str {
 pub fn opening_line(
     alloc: Global,
     port: u16,
-    workers: u32,
+    clients: u32,
     key: &str,
     password: &str,
     tables: &[(&str, &str)],
 ) -> io::Result<Option<String>> {
     let mut text = format!(in alloc;
-        "reqld: listening on 127.0.0.1:{port}, serving {workers} clients at once (--workers); tables: "
+        "reqld: listening on 127.0.0.1:{port}, serving {clients} clients at once (--clients); tables: "
     )?;
     put_tables(&mut text, tables)?;
     text.push_str("; ")?;
