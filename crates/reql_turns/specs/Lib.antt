@@ -1,3 +1,4 @@
 pub mod Ears
 pub mod Logins
 pub mod Rolling
+pub mod Running

@@ -10,10 +10,12 @@ mod greeting;
 mod handler;
 mod login;
 mod receiving;
+mod running;
 mod served;
 mod session;
 mod turn;
 
 pub use handler::Handler;
+pub use running::{Prepared, Running, begin, finish, prepare, received_room, step};
 pub use served::Served;
 pub use session::serve_session;

@@ -1,7 +1,8 @@
-use Rattle.reql_turns.proofs.Frames.{served}
+use Rattle.reql_turns.proofs.Stepping.{poor_so}
 use Rattle.reql_turns.proofs.session.serve_session.Goals as goal
 
-pub returns-clause-served : goal.returns-clause-served
-returns-clause-served g c =
-    rw c.finish-tape.ensures
-    (served (g.H.Handler.talk c.args.handler.now) (g.L.Link.tape c.args.link) (g.L.Link.tape c.converse-end.new.link) (g.H.Handler.work c.args.handler.now) (g.H.Handler.work c.converse-end.new.handler) (g.H.Handler.work c.leave.new.self) c.converse-end.result.end c.converse-end.result.turns c.requires.fresh c.requires.books c.converse-end.ensures.serves c.leave.ensures.clock c.leave.ensures.dice (rw c.converse-end.ensures.talk at c.leave.ensures.left))
+pub returns-in_default-clause-served : goal.returns-in_default-clause-served
+returns-in_default-clause-served g c = c.part.ensures.served (g.H.Handler.work c.args.handler.now) (poor_so (g.H.Handler.talk c.args.handler.now) (g.L.Link.tape c.args.link) (g.H.Handler.work c.args.handler.now) c.requires.fresh c.requires.books)
+
+pub returns-in_default-received_room-clause-served : goal.returns-in_default-received_room-clause-served
+returns-in_default-received_room-clause-served g c = c.part-in_default-received_room.ensures.served (g.H.Handler.work c.args.handler.now) (poor_so (g.H.Handler.talk c.args.handler.now) (g.L.Link.tape c.args.link) (g.H.Handler.work c.args.handler.now) c.requires.fresh c.requires.books)
