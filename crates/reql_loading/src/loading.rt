@@ -35,7 +35,7 @@ pub struct Loaded {
     pub ended: Option<Many<Core, MemDoor>>,
 }
 
-// Serves the sessions of a load. The four that write begin when the one that makes their index has ended.
+// Serves the sessions of a load, each by a thread of its own. The four that write begin when the one that makes their index has ended.
 fn serve_load<R>(rt: &R, alloc: Global, seed: u32, size: u32) -> Result<Many<Core, MemDoor>, Memory>
 where
     R: Threads + Wait + Sync,
@@ -44,7 +44,18 @@ where
 {
     let posts = posts(alloc, seed, size)?;
     let sessions = SESSIONS as u64;
-    let many = serve_posts(rt, alloc, "", "", &[("test", "load")], posts, sessions, 4)?;
+    let threads = SESSIONS as usize;
+    let many = serve_posts(
+        rt,
+        alloc,
+        "",
+        "",
+        &[("test", "load")],
+        posts,
+        sessions,
+        threads,
+        4,
+    )?;
     Ok(many)
 }
 

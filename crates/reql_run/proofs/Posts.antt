@@ -15,7 +15,7 @@ map_twice f g [] = refl
 map_twice f g (x ∷ xs) = ap (λ ys. g (f x) ∷ ys) (map_twice f g xs)
 
 -- the status where no session was served is that of its fault
-pub unheard : (asked : Asks) (port many sessions : ℕ) (key password : List ℕ) (quiet : Bool) (tables : List (List ℕ × List ℕ)) (old new : NetTold) (status back : ℕ) (f : NetFault)
-    → asked ≡ Listen port many sessions key password quiet tables → status ≡ status_of_fault f → ComesToNone old new port many back f → Unheard asked old new status back
-unheard asked port many sessions key password quiet tables old new status back fault.Failed is s c = subst (λ a. Unheard a old new status back) (sym is) (inl (s, c.0, c.1))
-unheard asked port many sessions key password quiet tables old new status back fault.Memory is s c = subst (λ a. Unheard a old new status back) (sym is) (inr (s, c))
+pub unheard : (asked : Asks) (port workers many sessions : ℕ) (key password : List ℕ) (quiet : Bool) (tables : List (List ℕ × List ℕ)) (old new : NetTold) (status back : ℕ) (f : NetFault)
+    → asked ≡ Listen port workers many sessions key password quiet tables → status ≡ status_of_fault f → ComesToNone old new port many back f → Unheard asked old new status back
+unheard asked port workers many sessions key password quiet tables old new status back fault.Failed is s c = subst (λ a. Unheard a old new status back) (sym is) (inl (s, c.0, c.1))
+unheard asked port workers many sessions key password quiet tables old new status back fault.Memory is s c = subst (λ a. Unheard a old new status back) (sym is) (inr (s, c))

@@ -57,28 +57,29 @@ AreServed state known tape keys tables posts sessions workers hall =
     (replicate usual_limits.slots (unused usual_limits.feeds usual_limits.tail)) posts sessions workers hall
 
 -- The sessions that came to a port of a net. It is asked once, for this port and for so many posts, and gives them; nobody has used
--- them, and their clocks and dice never fail where it is sound. Each of them has a worker.
-pub record ComesTo {E NE R : Type 0} (state : E → State) (known : NE → Catalog) (tape : R → Tape) (port many sessions : ℕ) (keys : Keys) (tables : List (List ℕ × List ℕ)) (old new : NetTold) (workers : List (AtEnd R)) (hall : Closed E Order State NE CatCmd Catalog) : Type 0 where
+-- them, and their clocks and dice never fail where it is sound. Each of them has a seat.
+pub record ComesTo {E NE R : Type 0} (state : E → State) (known : NE → Catalog) (tape : R → Tape) (port many sessions : ℕ) (keys : Keys) (tables : List (List ℕ × List ℕ)) (old new : NetTold) (seats : List (AtEnd R)) (hall : Closed E Order State NE CatCmd Catalog) : Type 0 where
   pub net : new ≡ nets.asks old port many many 0
   pub posts : List Outside
   pub one_each : length posts ≡ many
   pub fresh : All IsFreshPost posts
   pub sound : old.sound ≡ true → All IsSoundPost posts
-  pub served : AreServed state known tape keys tables posts sessions workers hall
+  pub served : AreServed state known tape keys tables posts sessions seats hall
 
--- The words ask for a port, for so many workers and for so many sessions in all, which came; the status is the greatest of the
--- workers'.
-pub record Listens {E NE R : Type 0} (state : E → State) (known : NE → Catalog) (tape : R → Tape) (asked : Asks) (old new : NetTold) (status : ℕ) (workers : List (AtEnd R)) (hall : Closed E Order State NE CatCmd Catalog) : Type 0 where
+-- The words ask for a port, for so many workers, for so many clients at once and for so many sessions in all, which came; the status is
+-- the greatest of the seats'.
+pub record Listens {E NE R : Type 0} (state : E → State) (known : NE → Catalog) (tape : R → Tape) (asked : Asks) (old new : NetTold) (status : ℕ) (seats : List (AtEnd R)) (hall : Closed E Order State NE CatCmd Catalog) : Type 0 where
   pub port : ℕ
+  pub workers : ℕ
   pub many : ℕ
   pub sessions : ℕ
   pub key : List ℕ
   pub password : List ℕ
   pub quiet : Bool
   pub tables : List (List ℕ × List ℕ)
-  pub asks : asked ≡ Listen port many sessions key password quiet tables
-  pub came : ComesTo state known tape port many sessions (keys_by key password) tables old new workers hall
-  pub ends : status ≡ status_of_workers (map (λ (w : AtEnd R). w.state) workers)
+  pub asks : asked ≡ Listen port workers many sessions key password quiet tables
+  pub came : ComesTo state known tape port many sessions (keys_by key password) tables old new seats hall
+  pub ends : status ≡ status_of_workers (map (λ (w : AtEnd R). w.state) seats)
 
 -- No session of a port is told of, and so many posts are handed back: its net is asked once, and fails, or memory is wanted, and all
 -- that it gave are handed back.
@@ -89,6 +90,6 @@ ComesToNone old new port many back fault.Memory = new ≡ nets.asks old port man
 -- No session is told of, and so many posts are handed back: the words ask for no port, and the net isn't asked; or it is asked once,
 -- and fails, or memory is wanted, and all that it gave are handed back.
 abbrev pub Unheard : Asks → NetTold → NetTold → ℕ → ℕ → Type 0
-Unheard (Listen port many sessions key password quiet tables) old new status back =
+Unheard (Listen port workers many sessions key password quiet tables) old new status back =
     ((status ≡ 3) × (back ≡ 0) × (new ≡ nets.asks old port many 0 1)) ⊎ ((status ≡ 8) × (new ≡ nets.asks old port many back 0))
 Unheard asked old new status back = (status ≡ 2) × (back ≡ 0) × (new ≡ old)

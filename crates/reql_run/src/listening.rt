@@ -93,8 +93,9 @@ fn status_of_workers<G: Door>(workers: &[Left<G>]) -> u8
     status
 }
 
-/// Serves the sessions of these posts, up to so many, to who has the key or the password, with these tables from the start. So many of the first
-/// posts begin when the others have ended. An `Err` hands the posts back as they came.
+/// Serves the sessions of these posts, up to so many, to who has the key or the password, with these tables from the start. So many threads
+/// serve them, each its share of the posts, turn by turn. So many of the first posts begin when the others have ended. An `Err` hands the
+/// posts back as they came.
 pub fn serve_posts<R, G, D, T>(
     rt: &R,
     alloc: Global,
@@ -103,12 +104,14 @@ pub fn serve_posts<R, G, D, T>(
     tables: &[(&str, &str)],
     posts: Vec<Post<G, D, T>>,
     sessions: u64,
+    threads: usize,
     later: usize,
 ) -> Result<Many<Core, G>, Refused<Vec<Post<G, D, T>>>>
 where
     R: Threads + Wait + Sync,
     G: Door + Drop + Send,
     G::Link: Send,
+    G::Watch: Send,
     <G::Link as Link>::Record: Drop + Send,
     D: Dice + Drop + Send,
     T: Clock + Drop + Send,
@@ -126,10 +129,12 @@ where
         plans,
     } = start;
     let planner = QueryPlanner::<Core>::new(plans);
-    serve_many(rt, alloc, names, engines, &planner, posts, sessions, later)
+    serve_many(
+        rt, alloc, names, engines, &planner, posts, sessions, threads, later,
+    )
 }
 
-// Serves the sessions that come to a port, by so many workers. An `Err` hands back the posts that the net gave.
+// Serves the sessions that come to a port, so many at once, by so many workers. An `Err` hands back the posts that the net gave.
 fn serve_port<R, N>(
     rt: &R,
     alloc: Global,
@@ -138,6 +143,7 @@ fn serve_port<R, N>(
     tables: &[(&str, &str)],
     port: u16,
     workers: u32,
+    clients: u32,
     sessions: u64,
     net: &mut N,
 ) -> Result<Many<Core, N::Door>, NoneServed<N::Door, N::Dice, N::Clock>>
@@ -146,23 +152,34 @@ where
     N: Net,
     N::Door: Drop + Send,
     <N::Door as Door>::Link: Send,
+    <N::Door as Door>::Watch: Send,
     <<N::Door as Door>::Link as Link>::Record: Drop + Send,
     N::Dice: Drop + Send,
     N::Clock: Drop + Send,
-    ensures came { IfOk result (λ many. ComesTo (state_of held_in) (λ n. n) N.Door.Link.kept port workers sessions
+    ensures came { IfOk result (λ many. ComesTo (state_of held_in) (λ n. n) N.Door.Link.kept port clients sessions
         (keys_by key.now password.now) (map named tables.now) (N.told net.old) (N.told net.new)
         (map (λ w. at_end (N.Door.told w.door) w.ended.items w.left w.state) many.workers.items) many.hall) }
-    ensures none { IfErr result (λ none. ComesToNone (N.told net.old) (N.told net.new) port workers (length none.posts.items) none.fault) }
+    ensures none { IfErr result (λ none. ComesToNone (N.told net.old) (N.told net.new) port clients (length none.posts.items) none.fault) }
     ensures untouched { IfErr result (λ none. All (IsUntouched N.Door.told) none.posts.items) }
 {
-    let posts = match net.doors(alloc, port, workers) {
+    let posts = match net.doors(alloc, port, clients) {
         Ok(posts) => posts,
         Err(fault) => {
             let posts = Vec::new(alloc);
             return Err(NoneServed { fault, posts });
         }
     };
-    match serve_posts(rt, alloc, key, password, tables, posts, sessions, 0) {
+    match serve_posts(
+        rt,
+        alloc,
+        key,
+        password,
+        tables,
+        posts,
+        sessions,
+        workers as usize,
+        0,
+    ) {
         Ok(many) => Ok(many),
         Err(refused) => Err(NoneServed {
             fault: NetFault::Memory,
@@ -172,8 +189,9 @@ where
 }
 
 /// Serves clients that connect to a port of the net, with what the words ask for:
-/// `listen [--port P] [--workers W] [--sessions S] [--quiet] [--key K] [--password P] [--table DB.NAME]..`,
-/// its options in any order. W clients are served at once, each by a worker of its own, and S in all.
+/// `listen [--port P] [--workers W] [--clients C] [--sessions S] [--quiet] [--key K] [--password P] [--table DB.NAME]..`,
+/// its options in any order. C clients are served at once, by W workers, each a thread that serves its share of them turn by turn; and S
+/// in all.
 ///
 /// With other words the status is 2, and the net isn't asked. Where memory is wanted before a client is
 /// served, the posts that the net gave come back, all of them and with untouched doors, so that nobody
@@ -190,6 +208,7 @@ where
     N: Net,
     N::Door: Drop + Send,
     <N::Door as Door>::Link: Send,
+    <N::Door as Door>::Watch: Send,
     <<N::Door as Door>::Link as Link>::Record: Drop + Send,
     N::Dice: Drop + Send,
     N::Clock: Drop + Send,
@@ -270,6 +289,7 @@ where
     let Command::Listen {
         port,
         workers,
+        clients,
         sessions,
         key,
         password,
@@ -290,6 +310,7 @@ where
         tables.as_slice(),
         port,
         workers,
+        clients,
         sessions,
         net,
     ) {

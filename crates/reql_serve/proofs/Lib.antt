@@ -1,7 +1,11 @@
-pub mod Desks
+pub mod Chunks
 pub mod Crew
+pub mod Desks
+pub mod Fitting
 pub mod Gathering
+pub mod Grouped
 pub mod InTurn
+pub mod Seated
 pub mod Seating
 pub mod Sends
 pub mod Sharing

@@ -58,11 +58,11 @@ module _ (C D T V : RattleType) (e : Ghosts C.Denot Order Reply Snap (Look V.Den
     (as_row_send (row_field T) t, (as_row_send (row_field D) d, tt)),
   )
 
-module _ (C G D T V L R : RattleType) (e : Ghosts C.Denot Order Reply Snap (Look V.Denot) MachineState Told Heard) where
-  pub worker_send : IsSend C → IsSend G → IsSend D → IsSend T → IsSend R → IsSend (worker.the_row C G D T V L R e)
+module _ (C G D T V L W R : RattleType) (e : Ghosts C.Denot Order Reply Snap (Look V.Denot) MachineState Told Heard) where
+  pub worker_send : IsSend C → IsSend G → IsSend D → IsSend T → IsSend R → IsSend (worker.the_row C G D T V L W R e)
   worker_send c g d t r =
       let m = member_send R r in
-      declared_send (worker.the_type C G D T V L R e) (
+      declared_send (worker.the_type C G D T V L W R e) (
         as_row_send (row_field G) g,
         (
           as_row_send (option.the_field (bench.the_row C D T V e)) (may_send (bench.the_row C D T V e) (bench_send C D T V e c d t)),

@@ -1,5 +1,5 @@
 -- A worker's turns, one after another.
-use Rattle.std.proofs.Common.{◌≡◌, ◌≢◌, ℕ, ℤ, ◌+◌, ◌<◌, List, [], ◌∷◌, ◌++◌, length, All, Option, Some, None, refl, sym, ap, subst, ◌∙◌, arith}
+use Rattle.std.proofs.Common.{◌≡◌, ℕ, ℤ, ◌+◌, List, [], ◌∷◌, ◌++◌, length, All, Option, Some, None, refl, sym, ap, subst, ◌∙◌, arith}
 use Rattle.std.proofs.lemmas.List.{length_push}
 use Rattle.std.proofs.lemmas.List.Elements.{All-push}
 use Rattle.reql_outside.specs.Source.{Source}
@@ -11,19 +11,16 @@ use Rattle.reql_hall.specs.Shares.{Grows, Serves, share, seen_by}
 use Rattle.reql_hall.proofs.Joining.{serves_none, share_lies}
 use Rattle.reql_catalog.specs.declared.catalog.Catalog.{Catalog}
 use Rattle.reql_table_spec.specs.Machine.{State}
-use Rattle.reql_session_spec.specs.Books.{Books, no_books}
 use Rattle.reql_session_spec.specs.Tasks.{Talk}
 use Rattle.reql_session_spec.specs.Explained.{Life, ExplainedBy}
 use Rattle.reql_session_spec.specs.Worlds.{life_of}
 use Rattle.reql_session_spec.proofs.Upward.{one_more}
-use Rattle.reql_session_api.specs.World.{AtWork, Gave, IsServed}
+use Rattle.reql_session_api.specs.World.{Gave}
 use Rattle.reql_desk_moves.specs.Acting.{AtDesk}
-use Rattle.reql_session.specs.Settling.{working}
 use Rattle.reql_session.specs.declared.session.Bench.{Bench}
-use Rattle.reql_serve.specs.Working.{Outside, outside, gave_more, left_by, StopsWith, IsThere, AreThere, SitsAt, WorkedThere, IsLifeOf, Follow, ServesNext, Linked, Turns, WorkedSoFar, Worked}
+use Rattle.reql_serve.specs.Working.{Outside, outside, gave_more, left_by, StopsWith, IsThere, AreThere, SitsAt, WorkedThere, IsLifeOf, Follow, ServesNext, WorkedSoFar, Worked}
 use Rattle.reql_serve.specs.declared.worker.Member.{Member}
 use Rattle.reql_serve.specs.declared.worker.WorkState.{WorkState}
-use Rattle.reql_serve.specs.declared.worker.WorkState.TheVariants as state
 
 gave_twice : (n : ℕ) (door : DoorTold) → gave_more 1 (gave_more n door) ≡ gave_more (n + 1) door
 gave_twice n door = ap (λ g. record door { gave = g }) (counted_twice door.gave n 1)
@@ -58,25 +55,6 @@ module _ {R : Type 0} (tape : R → Tape) where
   follow_same from mid to (n ∷ ms) [] c d f = absurd f
   follow_same from mid to (n ∷ ms) (l ∷ ls) c d f = (f.0, f.1, follow_same f.0 mid to ms ls c d f.2)
 
-module _ {R : Type 0} where
-  -- nothing was used but the door
-  abbrev Idle : Rooms State Catalog → AtDesk → AtDesk → Outside → Outside → List (Member R) → List (Member R) → WorkState → Type 0
-  Idle hall old new from to before after end = Sits hall new × (after ≡ before) × (new ≡ old) × (to ≡ record from { door = left_by end from.door })
-
-  idle_turn : {H : Type 0} (desk : H → AtDesk) (clock : H → Source ℤ) (dice : H → Source (List ℕ)) (hall : Rooms State Catalog) (h g : H)
-      (old new : AtDesk) (clock0 clock1 : Source ℤ) (dice0 dice1 : Source (List ℕ)) (door0 door1 : DoorTold) (before after : List (Member R)) (end : WorkState)
-      → (after ≡ before) × (g ≡ h) × (door1 ≡ left_by end door0) → desk h ≡ old → clock h ≡ clock0 → dice h ≡ dice0
-      → new ≡ desk g → clock1 ≡ clock g → dice1 ≡ dice g → Sits hall (desk g)
-      → Idle hall old new (outside clock0 dice0 door0) (outside clock1 dice1 door1) before after end
-  idle_turn desk clock dice hall h g old new clock0 clock1 dice0 dice1 door0 door1 before after end l at ce de n c d s = (
-    subst (Sits hall) (sym n) s,
-    l.0,
-    n ∙ ap desk l.1 ∙ at,
-    let ct : clock1 ≡ clock0 = c ∙ ap clock l.1 ∙ ce in
-        let dt : dice1 ≡ dice0 = d ∙ ap dice l.1 ∙ de in
-        λ i. outside (ct i) (dt i) (l.2 i),
-  )
-
 module _ {PL R : Type 0} (k : Talk PL) (some : State) (tape : R → Tape) where
   -- what came of a member
   abbrev its_life : (old new : AtDesk) (from to : Outside) (m : Member R) → ServesNext k some tape old new from to m → Life
@@ -108,36 +86,6 @@ module _ {PL R : Type 0} (k : Talk PL) (some : State) (tape : R → Tape) where
     dice = s.served.dice;
   }
 
-  -- one turn, by a session at this desk, which was made for it and is over
-  pub turned : {H : Type 0} (desk : H → AtDesk) (books : H → Books) (clock : H → Source ℤ) (dice : H → Source (List ℕ)) (hall : Rooms State Catalog) (j : Talk PL) (number : ℕ) (h g : H)
-      (old new : AtDesk) (clock0 clock1 : Source ℤ) (dice0 dice1 : Source (List ℕ)) (door0 door1 : DoorTold) (before after : List (Member R)) (end : WorkState)
-      → j ≡ k → desk h ≡ old → working some (desk h) (books h) (clock h) (dice h) ≡ working some old no_books clock0 dice0
-      → Linked j tape end number (working some (desk h) (books h) (clock h) (dice h)) (working some (desk g) (books g) (clock g) (dice g)) door0 door1 before after h g
-      → new ≡ desk g → clock1 ≡ clock g → dice1 ≡ dice g → number ≡ old.names.number → Sits hall (desk g)
-      → Turns k some tape hall old new (outside clock0 dice0 door0) (outside clock1 dice1 door1) before after end
-  turned desk books clock dice hall j number h g old new clock0 clock1 dice0 dice1 door0 door1 before after state.Ready talk at work l n c d num s = record {
-    sits = subst (Sits hall) (sym n) s;
-    turn = (
-      l.0,
-      l.1,
-      record {
-        desk = l.2 ∙ num;
-        books = books g;
-        served = subst (λ (z : Talk PL × AtWork × AtWork). IsServed z.0 z.1 z.2 (tape l.0.served.tape) l.0.served.end l.0.served.turns)
-            (λ i. (talk i, work i, working some (sym n i) (books g) (sym c i) (sym d i))) l.3;
-        door = l.4;
-      },
-    );
-  }
-  turned desk books clock dice hall j number h g old new clock0 clock1 dice0 dice1 door0 door1 before after state.Done talk at work l n c d num s = absurd l
-  turned desk books clock dice hall j number h g old new clock0 clock1 dice0 dice1 door0 door1 before after state.Memory talk at work l n c d num s = absurd l
-  turned desk books clock dice hall j number h g old new clock0 clock1 dice0 dice1 door0 door1 before after state.Over talk at work l n c d num s =
-      let i = idle_turn desk clock dice hall h g old new clock0 clock1 dice0 dice1 door0 door1 before after state.Over (l.0, l.1, l.2) at (ap (λ (z : AtWork). z.clock) work) (ap (λ (z : AtWork). z.dice) work) n c d s in
-      record { sits = i.0; turn = (i.1, i.2, i.3) }
-  turned desk books clock dice hall j number h g old new clock0 clock1 dice0 dice1 door0 door1 before after state.Failed talk at work l n c d num s =
-      let i = idle_turn desk clock dice hall h g old new clock0 clock1 dice0 dice1 door0 door1 before after state.Failed (l.0, l.1, l.2) at (ap (λ (z : AtWork). z.clock) work) (ap (λ (z : AtWork). z.dice) work) n c d s in
-      record { sits = i.0; turn = (i.1, i.2, i.3) }
-
   pub none_so_far : (hall : Rooms State Catalog) (desk : AtDesk) (from : Outside) (most left : ℕ) (members : List (Member R)) → left ≡ most → members ≡ [] → Sits hall desk
       → WorkedSoFar k some tape hall desk desk from from most left members
   none_so_far hall desk from most left members e none s = record {
@@ -150,17 +98,15 @@ module _ {PL R : Type 0} (k : Talk PL) (some : State) (tape : R → Tape) where
     counts = omega (arith, e, ap length none);
   }
 
-  pub more_so_far : (hall : Rooms State Catalog) (old mid new : AtDesk) (from via to : Outside) (most left next : ℕ) (before after : List (Member R))
-      → WorkedSoFar k some tape hall old mid from via most left before → Turns k some tape hall mid new via to before after state.Ready → left ≡ next + 1
+  -- one more member
+  pub more_so_far : (hall : Rooms State Catalog) (old mid new : AtDesk) (from via to : Outside) (most left next : ℕ) (before after : List (Member R)) (m : Member R)
+      → WorkedSoFar k some tape hall old mid from via most left before → Sits hall new → after ≡ before ++ m ∷ [] → ServesNext k some tape mid new via to m → left ≡ next + 1
       → WorkedSoFar k some tape hall old new from to most next after
-  more_so_far hall old mid new from via to most left next before after w t e =
-      let m = t.turn.0 in
-      let is : after ≡ before ++ m ∷ [] = t.turn.1 in
-      let s = t.turn.2 in
+  more_so_far hall old mid new from via to most left next before after m w sits is s e =
       let many : length after ≡ length before + 1 = omega (arith, ap length is, length_push before m) in
       record {
         lives = w.lives ++ its_life mid new via to m s ∷ [];
-        sits = t.sits;
+        sits = sits;
         serves = one_more k some old mid new w.lives (its_life mid new via to m s) w.serves (grows_next mid new via to m s) (explained_next mid new via to m s);
         follow = subst (λ ms. Follow tape from ms (w.lives ++ its_life mid new via to m s ∷ []) to) (sym is)
             (follow_more tape from via to before w.lives m (its_life mid new via to m s) w.follow (is_life mid new via to m s));
@@ -170,42 +116,25 @@ module _ {PL R : Type 0} (k : Talk PL) (some : State) (tape : R → Tape) where
         counts = omega (arith, w.counts, e, many);
       }
 
-  same_end : (hall : Rooms State Catalog) (old mid new : AtDesk) (from via to : Outside) (most left : ℕ) (before after : List (Member R)) (end : WorkState)
-      → WorkedSoFar k some tape hall old mid from via most left before → Sits hall new → after ≡ before → new ≡ mid → to ≡ record via { door = left_by end via.door }
+  -- nothing was used
+  pub same_so_far : (hall : Rooms State Catalog) (old mid new : AtDesk) (from via to : Outside) (most left next : ℕ) (before after : List (Member R))
+      → WorkedSoFar k some tape hall old mid from via most left before → new ≡ mid → to ≡ via → next ≡ left → after ≡ before → WorkedSoFar k some tape hall old new from to most next after
+  same_so_far hall old mid new from via to most left next before after w n o l a =
+      subst (λ (z : AtDesk × Outside × ℕ × List (Member R)). WorkedSoFar k some tape hall old z.0 from z.1 most z.2 z.3) (λ i. (sym n i, sym o i, sym l i, sym a i)) w
+
+  -- it ends, where nothing was used but the door
+  pub ends_with : (hall : Rooms State Catalog) (old mid new : AtDesk) (from via to : Outside) (most left : ℕ) (before after : List (Member R)) (end : WorkState)
+      → WorkedSoFar k some tape hall old mid from via most left before → after ≡ before → new ≡ mid → to ≡ record via { door = left_by end via.door }
       → StopsWith end left → Worked k some tape hall old new from to most left after end
-  same_end hall old mid new from via to most left before after end w s a n o h = record {
+  ends_with hall old mid new from via to most left before after end w a n o h = record {
     lives = w.lives;
-    sits = s;
+    sits = subst (Sits hall) (sym n) w.sits;
     serves = subst (λ x. Serves some (ExplainedBy k) old x w.lives) (sym n) w.serves;
     follow = subst (λ ms. Follow tape from ms w.lives to) (sym a) (follow_same tape from via to before w.lives (ap (λ (z : Outside). z.clock) o) (ap (λ (z : Outside). z.dice) o) w.follow);
     numbers = subst (λ ms. All (λ (m : Member R). m.desk ≡ old.names.number) ms) (sym a) w.numbers;
     door = ap (λ (z : Outside). z.door) o ∙ ap (left_by end) w.door ∙ ap (λ ms. left_by end (gave_more (length ms) from.door)) (sym a);
     counts = omega (arith, w.counts, ap length a);
     stops = h;
-  }
-
-  -- a turn that was no member's is the last
-  pub worked_last : (hall : Rooms State Catalog) (old mid new : AtDesk) (from via to : Outside) (most left : ℕ) (before after : List (Member R)) (end : WorkState)
-      → WorkedSoFar k some tape hall old mid from via most left before → Turns k some tape hall mid new via to before after end → end ≢ state.Ready → 0 < left
-      → Worked k some tape hall old new from to most left after end
-  worked_last hall old mid new from via to most left before after state.Ready w t ne lt = absurd (ne refl)
-  worked_last hall old mid new from via to most left before after state.Done w t ne lt = absurd t.turn
-  worked_last hall old mid new from via to most left before after state.Over w t ne lt = same_end hall old mid new from via to most left before after state.Over w t.sits t.turn.0 t.turn.1 t.turn.2 lt
-  worked_last hall old mid new from via to most left before after state.Failed w t ne lt = same_end hall old mid new from via to most left before after state.Failed w t.sits t.turn.0 t.turn.1 t.turn.2 lt
-  worked_last hall old mid new from via to most left before after state.Memory w t ne lt = same_end hall old mid new from via to most left before after state.Memory w t.sits t.turn.0 t.turn.1 t.turn.2 lt
-
-  -- all of a share was served
-  pub worked_all : (hall : Rooms State Catalog) (old new : AtDesk) (from to : Outside) (most left : ℕ) (members : List (Member R))
-      → WorkedSoFar k some tape hall old new from to most left members → left ≡ 0 → Worked k some tape hall old new from to most 0 members state.Done
-  worked_all hall old new from to most left members w e = record {
-    lives = w.lives;
-    sits = w.sits;
-    serves = w.serves;
-    follow = w.follow;
-    numbers = w.numbers;
-    door = w.door;
-    counts = omega (arith, w.counts, e);
-    stops = refl;
   }
 
 module _ {PL R C D T V : Type 0} (k : Talk PL) (some : State) (tape : R → Tape) (told : T → Source ℤ) (rolled : D → Source (List ℕ)) where

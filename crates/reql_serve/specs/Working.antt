@@ -1,5 +1,5 @@
 -- What a worker did.
-use Rattle.std.specs.Prelude.{◌≡◌, ◌<◌, ◌+◌, ℕ, ℤ, true, List, [], ◌∷◌, ◌++◌, length, All, Option, Some, None}
+use Rattle.std.specs.Prelude.{◌≡◌, ◌<◌, ◌+◌, ℕ, ℤ, true, List, [], ◌∷◌, length, All, Option, Some, None}
 use Rattle.reql_outside.specs.Source.{Source}
 use Rattle.reql_outside.specs.Tape.{Tape, counted}
 use Rattle.reql_net.specs.Doors.{DoorTold}
@@ -11,7 +11,7 @@ use Rattle.reql_session_spec.specs.Books.{Books, no_books}
 use Rattle.reql_session_spec.specs.Tasks.{Talk}
 use Rattle.reql_session_spec.specs.Explained.{Life, ExplainedBy}
 use Rattle.reql_session_spec.specs.Worlds.{IsTold, faults_in_at, faults_out_at}
-use Rattle.reql_session_api.specs.World.{AtWork, Gave, IsServed}
+use Rattle.reql_session_api.specs.World.{Gave, IsServed}
 use Rattle.reql_desk_moves.specs.Acting.{AtDesk}
 use Rattle.reql_session.specs.Settling.{working}
 use Rattle.reql_session.specs.declared.session.Bench.{Bench}
@@ -78,16 +78,6 @@ module _ {R : Type 0} (tape : R → Tape) where
   Follow old (m ∷ ms) [] new = ⊥
   Follow old (m ∷ ms) (life ∷ lives) new = (mid : Outside) × IsLifeOf old mid m life × Follow mid ms lives new
 
-module _ {PL R : Type 0} (k : Talk PL) (tape : R → Tape) where
-  -- One turn over its door, by what handles frames, from h to g: one more member, at the desk of this number, or an end, at
-  -- which all is as it was.
-  abbrev pub Linked : {H : Type 0} → WorkState → ℕ → AtWork → AtWork → DoorTold → DoorTold → List (Member R) → List (Member R) → H → H → Type 0
-  Linked state.Ready number a b door to before after h g =
-      (m : Member R) × (after ≡ before ++ m ∷ []) × (m.desk ≡ number) × IsServed k a b (tape m.served.tape) m.served.end m.served.turns × (to ≡ gave_more 1 door)
-  Linked state.Done number a b door to before after h g = ⊥
-  Linked state.Memory number a b door to before after h g = ⊥
-  Linked end number a b door to before after h g = (after ≡ before) × (g ≡ h) × (to ≡ left_by end door)
-
 module _ {PL R : Type 0} (k : Talk PL) (some : State) (tape : R → Tape) where
   -- one more member, that came by the door and was served at the desk
   pub record ServesNext (old new : AtDesk) (from to : Outside) (m : Member R) : Type 0 where
@@ -95,17 +85,6 @@ module _ {PL R : Type 0} (k : Talk PL) (some : State) (tape : R → Tape) where
     pub books : Books
     pub served : IsServed k (working some old no_books from.clock from.dice) (working some new books to.clock to.dice) (tape m.served.tape) m.served.end m.served.turns
     pub door : to.door ≡ gave_more 1 from.door
-
-  -- one more member, or an end, at which neither desk nor clock nor dice were used
-  abbrev pub Turn : WorkState → AtDesk → AtDesk → Outside → Outside → List (Member R) → List (Member R) → Type 0
-  Turn state.Ready old new from to before after = (m : Member R) × (after ≡ before ++ m ∷ []) × ServesNext old new from to m
-  Turn state.Done old new from to before after = ⊥
-  Turn end old new from to before after = (after ≡ before) × (new ≡ old) × (to ≡ record from { door = left_by end from.door })
-
-  -- one turn of a worker
-  pub record Turns (hall : Rooms State Catalog) (old new : AtDesk) (from to : Outside) (before after : List (Member R)) (end : WorkState) : Type 0 where
-    pub sits : Sits hall new
-    pub turn : Turn end old new from to before after
 
   -- The turns of a worker so far, which had served nobody, and may serve so many: its members are all for whom its desk was
   -- used, each explained with its part of it, with nothing left; and there is one for each link that its door gave.

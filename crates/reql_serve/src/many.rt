@@ -38,9 +38,9 @@ pub struct Many<C: TableEngine, G: Door> {
     pub hall: FinalHall<C, Catalogue>,
 }
 
-/// Serves up to so many sessions at a hall of these names and engines, which nobody has used: a worker for each post, on a
-/// thread of its own where one can be made, each at a desk of its own, with its share of the sessions. So many of the first
-/// workers begin when the others have ended. An `Err` is want of memory to begin with, or more than 2^32 - 1 posts or engines, and hands
+/// Serves up to so many sessions at a hall of these names and engines, which nobody has used: a worker for each post, each at a
+/// desk of its own, with its share of the sessions, on so many threads, where they can be made. So many of the first workers
+/// begin when the others have ended. An `Err` is want of memory to begin with, or more than 2^32 - 1 posts or engines, and hands
 /// the posts back as they came: no door was asked.
 pub fn serve_many<R, C, P, G, D, T>(
     rt: &R,
@@ -50,6 +50,7 @@ pub fn serve_many<R, C, P, G, D, T>(
     planner: &P,
     posts: Vec<Post<G, D, T>>,
     sessions: u64,
+    threads: usize,
     later: usize,
 ) -> Result<Many<C, G>, Refused<Vec<Post<G, D, T>>>>
 where
@@ -61,6 +62,7 @@ where
     <P as Planner>::View: Send,
     G: Door + Drop + Send,
     G::Link: Send,
+    G::Watch: Send,
     <G::Link as Link>::Record: Drop + Send,
     D: Dice + Drop + Send,
     T: Clock + Drop + Send,
@@ -84,7 +86,16 @@ where
         return Err(Refused { back: posts });
     };
     let mut workers = seat_all(alloc, posts, desks, sessions)?;
-    serve_in_turn(rt, alloc, &hall, slots, planner, &mut workers, later);
+    serve_in_turn(
+        rt,
+        alloc,
+        &hall,
+        slots,
+        planner,
+        &mut workers,
+        threads,
+        later,
+    );
     let parted = part(workers, room_after);
     let hall = hall.close(rt, parted.desks, room);
     Ok(Many {

@@ -1,8 +1,9 @@
-// Workers, each on a thread of its own.
+// Workers, some on each thread.
 ghost use Rattle.std.specs.Prelude.{◌≡◌, ◌<◌, ℕ, [], All, length, slice_index_or};
 ghost use Rattle.reql_serve.specs.Working.{SitsAt, WorkedThere};
 
-use crate::worker::{Worker, work};
+use crate::group::serve_chunk;
+use crate::worker::Worker;
 use reql_catalog::Catalogue;
 use reql_hall::Hall;
 use reql_net::Door;
@@ -15,8 +16,16 @@ use std::sync::Wait;
 use std::thread;
 use std::thread::Threads;
 
-/// Serves the links of each worker's door, up to its share, each worker on a thread of its own where one can be made.
-/// They share the hall, at whose desks they sit. A worker that ends leaves the others as they are.
+// How many of so many seats each of so many threads has, at most.
+fn seats_each(seats: usize, threads: usize) -> usize
+    ensures { 0 < result }
+{
+    seats.div_ceil(threads.max(1)).max(1)
+}
+
+/// Serves the links of each worker's door, up to its share, on so many threads, where they can be made. Each thread serves as
+/// many workers as another, turn by turn. They share the hall, at whose desks they sit. A worker that ends leaves the others as
+/// they are.
 pub fn serve_all<R, C, P, G, D, T>(
     rt: &R,
     alloc: Global,
@@ -24,6 +33,7 @@ pub fn serve_all<R, C, P, G, D, T>(
     slots: u32,
     planner: &P,
     workers: &mut [Worker<C, G, D, T>],
+    threads: usize,
 )
 where
     R: Threads + Wait + Sync,
@@ -34,6 +44,7 @@ where
     <P as Planner>::View: Send,
     G: Door + Send,
     G::Link: Send,
+    G::Watch: Send,
     <G::Link as Link>::Record: Send,
     D: Dice + Drop + Send,
     T: Clock + Drop + Send,
@@ -47,12 +58,12 @@ where
         (slice_index_or workers.old k w).left (slice_index_or workers.new k w).left
         (slice_index_or workers.new k w).ended.items (slice_index_or workers.new k w).state }
 {
-    let threads = workers.len().max(1);
-    thread::for_each_mut(
+    let size = seats_each(workers.len(), threads);
+    thread::for_each_chunk_mut(
         rt,
         workers,
-        threads,
-        &|_, worker| work(rt, alloc, hall, slots, planner, worker),
+        size,
+        &|_, chunk| serve_chunk(rt, alloc, hall, slots, planner, chunk),
     );
 }
 
@@ -64,6 +75,7 @@ pub(crate) fn serve_in_turn<R, C, P, G, D, T>(
     slots: u32,
     planner: &P,
     workers: &mut [Worker<C, G, D, T>],
+    threads: usize,
     later: usize,
 )
 where
@@ -75,6 +87,7 @@ where
     <P as Planner>::View: Send,
     G: Door + Send,
     G::Link: Send,
+    G::Watch: Send,
     <G::Link as Link>::Record: Send,
     D: Dice + Drop + Send,
     T: Clock + Drop + Send,
@@ -90,6 +103,6 @@ where
 {
     let place = later.min(workers.len());
     let (last, first) = workers.split_at_mut(place);
-    serve_all(rt, alloc, hall, slots, planner, first);
-    serve_all(rt, alloc, hall, slots, planner, last);
+    serve_all(rt, alloc, hall, slots, planner, first, threads);
+    serve_all(rt, alloc, hall, slots, planner, last, threads);
 }

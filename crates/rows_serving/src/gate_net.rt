@@ -5,7 +5,7 @@ ghost use Rattle.reql_net.specs.Nets.{IsUntouched};
 
 use crate::gate_link::{GateLink, Part};
 use reql_memory::Memory;
-use reql_net::{Accept, Door, Net, NetFault, Post};
+use reql_net::{Accept, Door, Net, NetFault, Post, Rounds};
 use reql_outside::{MemClock, MemDice};
 use std::alloc::Global;
 
@@ -21,7 +21,13 @@ pub struct GateDoor {
 impl Door for GateDoor {
     type Link = GateLink;
 
+    type Watch = Rounds;
+
     ghost told = { λ d. record { gave = d.gave; over = d.over; broken = false; faults = 0 } };
+
+    fn watch(&self, _alloc: Global, _places: usize) -> Option<Rounds> {
+        Some(Rounds::new())
+    }
 
     fn accept(&mut self) -> Accept<GateLink> {
         let Some(part) = self.part.take() else {

@@ -1,4 +1,4 @@
-// Sessions that wait for one another: no server of fewer workers, and none on one thread, serves them.
+// Sessions that wait for one another: no server that serves them one after another comes to their ends.
 use crate::gate_link::{GateRecord, Part};
 use crate::gate_net::{GateDoor, GateNet};
 use crate::pieces::{GREETED, GREETING, INSERT, with_frames, words_of};
@@ -47,11 +47,12 @@ fn all_closed(heard: &Heard<GateDoor, MemDice, MemClock>) -> u64 {
     count
 }
 
-// Serves these clients by so many workers: the status, and how many sessions were closed.
+// Serves so many clients at once, by so many workers: the status, and how many sessions were closed.
 fn serve<R: Threads + Wait + Sync>(
     rt: &R,
     alloc: Global,
     workers: &str,
+    clients: &str,
     parts: Vec<Part>,
 ) -> Result<(u8, u64), Fail> {
     let words = words_of(
@@ -62,8 +63,10 @@ fn serve<R: Threads + Wait + Sync>(
             "1",
             "--workers",
             workers,
+            "--clients",
+            clients,
             "--sessions",
-            workers,
+            clients,
             "--table",
             "test.docs",
         ],
@@ -73,9 +76,8 @@ fn serve<R: Threads + Wait + Sync>(
     Ok((heard.status, all_closed(&heard)))
 }
 
-#[test]
-fn gate_listen(rt: HostRuntime) -> Result<(), Fail> {
-    let alloc = rt.alloc();
+// Four clients, each of whom ends when all of them were greeted.
+fn greeted(alloc: Global) -> Result<Vec<Part>, Fail> {
     let met = Arc::new(alloc, AtomicU64::new(0))?;
     let mut parts = Vec::new(alloc);
     for _ in 0..4u32 {
@@ -89,7 +91,23 @@ fn gate_listen(rt: HostRuntime) -> Result<(), Fail> {
             met: Arc::try_clone(&met)?,
         })?;
     }
-    assert_eq!(rt; serve(&rt, alloc, "4", parts)?, (0, 4));
+    Ok(parts)
+}
+
+#[test]
+fn gate_listen(rt: HostRuntime) -> Result<(), Fail> {
+    let alloc = rt.alloc();
+    let parts = greeted(alloc)?;
+    assert_eq!(rt; serve(&rt, alloc, "4", "4", parts)?, (0, 4));
+    Ok(())
+}
+
+// On two threads, each of which has two of the clients.
+#[test]
+fn gate_shared_threads(rt: HostRuntime) -> Result<(), Fail> {
+    let alloc = rt.alloc();
+    let parts = greeted(alloc)?;
+    assert_eq!(rt; serve(&rt, alloc, "2", "4", parts)?, (0, 4));
     Ok(())
 }
 
@@ -121,14 +139,29 @@ fn writer(alloc: Global, met: Arc<AtomicU64, Global>) -> Result<Part, Fail> {
     })
 }
 
-// Over `listen`, which serves its workers by `serve_all`.
-#[test]
-fn gate_two_sessions(rt: HostRuntime) -> Result<(), Fail> {
-    let alloc = rt.alloc();
+// Both of them.
+fn both(alloc: Global) -> Result<Vec<Part>, Fail> {
     let met = Arc::new(alloc, AtomicU64::new(0))?;
     let mut parts = Vec::new(alloc);
     parts.push(reader(alloc, Arc::try_clone(&met)?)?)?;
     parts.push(writer(alloc, met)?)?;
-    assert_eq!(rt; serve(&rt, alloc, "2", parts)?, (0, 2));
+    Ok(parts)
+}
+
+// Over `listen`, which serves its seats by `serve_all`.
+#[test]
+fn gate_two_sessions(rt: HostRuntime) -> Result<(), Fail> {
+    let alloc = rt.alloc();
+    let parts = both(alloc)?;
+    assert_eq!(rt; serve(&rt, alloc, "2", "2", parts)?, (0, 2));
+    Ok(())
+}
+
+// The same on one thread.
+#[test]
+fn gate_one_thread(rt: HostRuntime) -> Result<(), Fail> {
+    let alloc = rt.alloc();
+    let parts = both(alloc)?;
+    assert_eq!(rt; serve(&rt, alloc, "1", "2", parts)?, (0, 2));
     Ok(())
 }

@@ -184,11 +184,13 @@ fn net_of(alloc: Global, link: MemLink, fails: &[u64]) -> Result<MemNet, Fail>
     Ok(MemNet::new(posts, fails.to_vec(alloc)?))
 }
 
-const LISTEN: [&str; 9] = [
+const LISTEN: [&str; 11] = [
     "listen",
     "--port",
     "1",
     "--workers",
+    "1",
+    "--clients",
     "1",
     "--sessions",
     "1",
@@ -207,7 +209,7 @@ fn sent_by(ended: &[Member<MemRecord>], sent: &[u8]) -> u64 {
     count
 }
 
-// The same, of all workers.
+// The same, of all seats.
 fn all_sent(heard: &Heard<MemDoor, MemDice, MemClock>, sent: &[u8]) -> u64 {
     let Ok(many) = &heard.ended else {
         return 0;
