@@ -2,5 +2,8 @@ pub mod Hello
 pub mod Reading
 pub mod Listening
 pub mod Talking
+pub mod Proving
+pub mod Login
+pub mod Program
 pub mod Calls
 pub mod Bounds

@@ -1,15 +1,19 @@
 // A client of a server.
-ghost use Rattle.std.specs.Prelude.{◌≡◌, ◌≤◌, ◌<◌, ◌^◌, length, option_map, IfOk, IfSome};
-ghost use Rattle.serde_json.specs.View.{view};
+ghost use Rattle.std.specs.Prelude.{◌≡◌, ◌≤◌, ◌<◌, ◌^◌, length, string_bytes, IfOk, IfSome};
+ghost use Rattle.base64.specs.Engines.{standard};
+ghost use Rattle.base64.specs.GeneralPurpose.{encode_of};
 ghost use Rattle.reql_wire.specs.Frames.{spelling};
 ghost use Rattle.reql_wire.specs.Greeting.{greeting_by};
-ghost use Rattle.reql_client.specs.Calls.{Asks, Opens};
-ghost use Rattle.reql_client.specs.Reading.{json_of};
+ghost use Rattle.reql_client.specs.Calls.{Asks, IsIn, LogsIn, Opens};
 
+use crate::entering::enter;
 use crate::fault::ClientFault;
 use crate::greeting::{Reception, greeting_by, meet};
 use crate::limits::Limits;
 use crate::listening::{Reply, listen};
+use crate::reading::value_of;
+use crate::turn::Entrant;
+use base64::engine::general_purpose::STANDARD;
 use reql_memory::Memory;
 use reql_outside::{Link, send_all};
 use reql_wire::{Feeder, put_frame};
@@ -75,6 +79,34 @@ fn room(alloc: Global, key: &[u8]) -> Option<(Vec<u8>, Vec<u8>)>
     Some((greeting, buf))
 }
 
+fn nonce_room(alloc: Global, roll: &[u8]) -> Option<(String, Vec<u8>)>
+    ensures nonce { IfSome result (λ r. string_bytes r.0 ≡ encode_of standard roll.now) }
+    ensures room { IfSome result (λ r. length r.1.items ≡ 65536) }
+{
+    let nonce = STANDARD.encode(alloc, roll).ok()?;
+    let buf = buffer(alloc)?;
+    Some((nonce, buf))
+}
+
+// A client of a server that let it in, where these bytes came behind its last message.
+#[tactic(auto, unfolding(crate::specs::Calls::IsIn))]
+fn let_in<L: Link>(alloc: Global, link: L, held: &[u8], buf: Vec<u8>, limits: &Limits) -> Opened<L>
+    requires { length buf.items ≡ 65536 }
+    ensures { IsIn L.tape (L.tape link) held.now limits.now.answer limits.now.turns result }
+{
+    let mut feeder = Feeder::new(alloc, limits.answer);
+    if feeder.feed(held).is_err() {
+        return Opened::Lost(link, ClientFault::Memory);
+    }
+    Opened::Ready(Client {
+        alloc,
+        link,
+        feeder,
+        buf,
+        turns: limits.turns,
+    })
+}
+
 fn frame_of(alloc: Global, token: u64, body: &[u8]) -> Result<Vec<u8>, Memory>
     requires { length body.now < 2 ^ 32 }
     ensures { IfOk result (λ out. out.items ≡ spelling (record { token = token; body = body.now })) }
@@ -83,17 +115,6 @@ fn frame_of(alloc: Global, token: u64, body: &[u8]) -> Result<Vec<u8>, Memory>
     match put_frame(&mut out, token, body) {
         Ok(()) => Ok(out),
         Err(_) => Err(Memory),
-    }
-}
-
-// The JSON of a body, where it is JSON.
-fn value_of(alloc: Global, body: &[u8]) -> Result<Option<Value>, Memory>
-    ensures { IfOk result (λ v. option_map view v ≡ json_of body.now) }
-{
-    match Value::from_slice(alloc, body) {
-        Ok(value) => Ok(Some(value)),
-        Err(e) if e.is_memory() => Err(Memory),
-        Err(_) => Ok(None),
     }
 }
 
@@ -126,6 +147,32 @@ impl<L: Link> Client<L> {
             Reception::ReadFault => Opened::Lost(link, ClientFault::ReadFault),
             Reception::Worn => Opened::Lost(link, ClientFault::Worn),
             Reception::Memory => Opened::Lost(link, ClientFault::Memory),
+        }
+    }
+
+    /// Logs in at a server over a link, as the user `admin`: by a password, and by bytes of dice, another roll for each login. Their
+    /// base64 is the client's nonce.
+    pub fn log_in(
+        alloc: Global,
+        link: L,
+        password: &[u8],
+        roll: &[u8],
+        limits: &Limits,
+    ) -> Opened<L>
+        ensures { LogsIn L.tape (L.tape link) password.now (encode_of standard roll.now) limits.now.answer limits.now.turns result }
+    {
+        let mut link = link;
+        let Some((nonce, mut buf)) = nonce_room(alloc, roll) else {
+            return Opened::Lost(link, ClientFault::Memory);
+        };
+        let turns = limits.turns;
+        let entrant = Entrant {
+            password,
+            nonce: nonce.as_bytes(),
+        };
+        match enter(alloc, &mut link, &mut buf, entrant, turns) {
+            Ok(held) => let_in(alloc, link, &held, buf, limits),
+            Err(fault) => Opened::Lost(link, fault),
         }
     }
 

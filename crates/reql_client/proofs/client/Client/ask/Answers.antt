@@ -1,4 +1,4 @@
-use Rattle.std.proofs.Common.{◌≡◌, ◌∙◌, option_map, refl, sym, ap}
+use Rattle.std.proofs.Common.{◌∙◌, option_map, refl, sym, ap}
 use Rattle.serde_json.specs.View.{view}
 use Rattle.reql_client.specs.Calls.{Asks}
 use Rattle.reql_client.specs.Listening.{Hears}
