@@ -25,8 +25,8 @@ pub enum Told<'a> {
     Strange,
 }
 
-// The whole number of a member.
-fn number_in(answer: &Value, name: &str) -> Option<u64>
+/// The whole number of a member.
+pub fn number_in(answer: &Value, name: &str) -> Option<u64>
     ensures { result ≡ number_in name.now (view answer.now) }
 {
     answer.get(name).and_then(Value::as_u64)

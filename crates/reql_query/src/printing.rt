@@ -109,8 +109,8 @@ fn show_results<K: Sink>(alloc: Global, results: &[Value], more: bool, out: &mut
     }
 }
 
-// Tells the fault of an answer.
-fn show_fault(alloc: Global, kind: Kind, text: &str, path: Option<&Value>) -> Shown
+/// The line of a fault of an answer.
+pub fn show_fault(alloc: Global, kind: Kind, text: &str, path: Option<&Value>) -> Shown
     ensures { ShowsFault kind text.now (option_map (λ p. view p.now) path.entry) result }
 {
     match fault_line(alloc, kind, text, path) {

@@ -1,16 +1,25 @@
 // The words of the command line.
-ghost use Rattle.std.specs.Prelude.{◌≤◌, length, IfSome};
-ghost use Rattle.reql_query.specs.Words.{Fits, IsRight, Says};
+ghost use Rattle.std.specs.Prelude.{◌≡◌, ◌≤◌, true, IfSome};
+ghost use Rattle.std.specs.List.{list_all};
+ghost use Rattle.reql_query.specs.Words.{Fits, FitsCredential, FitsServer, FitsTable, IsName, IsRight, Says, is_name_byte};
 
 /// What the words ask for.
 #[derive(Clone, Copy)]
 pub enum Command<'a> {
-    /// Ask the server at this port of 127.0.0.1, 1 to 65535, by this key, of at most 1024 bytes, and these bodies: where there are
-    /// none, by those that stand on the standard input, a line each.
+    /// Ask the server by these bodies: where there are none, by those that stand on the standard input, a line each.
     Ask {
-        port: u16,
-        key: &'a str,
+        server: Server<'a>,
         bodies: &'a [String],
+    },
+    /// Print each document of this table.
+    Dump {
+        server: Server<'a>,
+        table: Table<'a>,
+    },
+    /// Insert the documents on the standard input, a line each, into this table.
+    Restore {
+        server: Server<'a>,
+        table: Table<'a>,
     },
     /// Say how to use the program.
     Help,
@@ -22,12 +31,51 @@ pub enum Command<'a> {
     NoPort {
         word: &'a str,
     },
+    /// Nothing: this word names no table.
+    NoTable {
+        word: &'a str,
+    },
     /// Nothing: the key is longer than a server takes.
     LongKey,
     /// Nothing: the words end behind this option, which has a value.
     Missing {
         option: &'a str,
     },
+    /// Nothing: a table is wanted, or a command.
+    Untold,
+}
+
+/// A server at a port of 127.0.0.1, 1 to 65535, and how it is entered.
+#[derive(Clone, Copy)]
+pub struct Server<'a> {
+    pub port: u16,
+    pub credential: Credential<'a>,
+}
+
+/// How a server is entered.
+#[derive(Clone, Copy)]
+pub enum Credential<'a> {
+    /// By this authorization key, of at most 1024 bytes.
+    Key(&'a str),
+    /// By a login with this password.
+    Password(&'a str),
+    /// By a login with the password that is the first line of this file.
+    PasswordFile(&'a str),
+}
+
+/// A table, and the database that it is in.
+#[derive(Clone, Copy)]
+pub struct Table<'a> {
+    pub database: &'a str,
+    pub name: &'a str,
+}
+
+// The commands.
+#[derive(Clone, Copy, PartialEq, Eq)]
+enum Verb {
+    Query,
+    Dump,
+    Restore,
 }
 
 // The port of a server that was told no other.
@@ -36,11 +84,15 @@ const USUAL_PORT: u16 = 28_015;
 // The longest key that a server takes.
 const LONGEST_KEY: usize = 1024;
 
+// The longest name of a database or table.
+const LONGEST_NAME: usize = 127;
+
 // What the options so far have said.
 #[derive(Clone, Copy)]
 pub(crate) struct Said<'a> {
     pub port: Option<u16>,
-    pub key: Option<&'a str>,
+    pub credential: Option<Credential<'a>>,
+    pub table: Option<Table<'a>>,
 }
 
 // The number of a port, in digits without a sign or a needless zero.
@@ -56,6 +108,43 @@ fn port_of(word: &str) -> Option<u16>
     }
 }
 
+fn is_name_byte(byte: u8) -> bool
+    ensures { result ≡ is_name_byte byte }
+{
+    (65 <= byte && byte <= 90)
+        || (97 <= byte && byte <= 122)
+        || (48 <= byte && byte <= 57)
+        || byte == 95
+        || byte == 45
+}
+
+fn are_name_bytes(text: &[u8]) -> bool
+    ensures { result ≡ list_all is_name_byte text.now }
+{
+    text.iter().all(|byte| is_name_byte(*byte))
+}
+
+// Whether a text is a name of a database or table.
+fn is_name(text: &str) -> bool
+    ensures { result ≡ true → IsName text.now }
+{
+    if text.is_empty() || text.len() > LONGEST_NAME {
+        return false;
+    }
+    are_name_bytes(text.as_bytes())
+}
+
+// The table that a word names, `DB.NAME`.
+fn table_of(word: &str) -> Option<Table<'_>>
+    ensures { IfSome result FitsTable }
+{
+    let (database, name) = word.split_once('.')?;
+    if is_name(database) && is_name(name) {
+        return Some(Table { database, name });
+    }
+    None
+}
+
 // What is said once the port is said by this word.
 fn say_port<'a>(said: Said<'a>, word: &'a str) -> Result<Said<'a>, Command<'a>>
     requires { IsRight said }
@@ -64,10 +153,39 @@ fn say_port<'a>(said: Said<'a>, word: &'a str) -> Result<Said<'a>, Command<'a>>
     match port_of(word) {
         Some(port) => Ok(Said {
             port: Some(port),
-            key: said.key,
+            credential: said.credential,
+            table: said.table,
         }),
         None => Err(Command::NoPort { word }),
     }
+}
+
+// What is said once the table is said by this word.
+fn say_table<'a>(said: Said<'a>, word: &'a str) -> Result<Said<'a>, Command<'a>>
+    requires { IsRight said }
+    ensures { Says result }
+{
+    match table_of(word) {
+        Some(table) => Ok(Said {
+            port: said.port,
+            credential: said.credential,
+            table: Some(table),
+        }),
+        None => Err(Command::NoTable { word }),
+    }
+}
+
+// What is said once it is said how the server is entered.
+fn say_credential<'a>(said: Said<'a>, credential: Credential<'a>) -> Result<Said<'a>, Command<'a>>
+    requires right { IsRight said }
+    requires fits { FitsCredential credential }
+    ensures { Says result }
+{
+    Ok(Said {
+        port: said.port,
+        credential: Some(credential),
+        table: said.table,
+    })
 }
 
 // What is said once the key is said.
@@ -78,13 +196,10 @@ fn say_key<'a>(said: Said<'a>, key: &'a str) -> Result<Said<'a>, Command<'a>>
     if key.len() > LONGEST_KEY {
         return Err(Command::LongKey);
     }
-    Ok(Said {
-        port: said.port,
-        key: Some(key),
-    })
+    say_credential(said, Credential::Key(key))
 }
 
-// What is said once this option has this value.
+// What is said once this option has this value, where it can be one of any command.
 fn say<'a>(said: Said<'a>, option: &'a str, value: &'a str) -> Result<Said<'a>, Command<'a>>
     requires { IsRight said }
     ensures { Says result }
@@ -92,8 +207,20 @@ fn say<'a>(said: Said<'a>, option: &'a str, value: &'a str) -> Result<Said<'a>, 
     if option == "--port" && said.port.is_none() {
         return say_port(said, value);
     }
-    if option == "--key" && said.key.is_none() {
+    if option == "--table" && said.table.is_none() {
+        return say_table(said, value);
+    }
+    if said.credential.is_some() {
+        return Err(Command::Wrong { word: option });
+    }
+    if option == "--key" {
         return say_key(said, value);
+    }
+    if option == "--password" {
+        return say_credential(said, Credential::Password(value));
+    }
+    if option == "--password-file" {
+        return say_credential(said, Credential::PasswordFile(value));
     }
     Err(Command::Wrong { word: option })
 }
@@ -108,13 +235,23 @@ fn port_in(said: Said<'_>) -> u16
     }
 }
 
-fn key_in<'a>(said: Said<'a>) -> &'a str
+fn credential_in<'a>(said: Said<'a>) -> Credential<'a>
     requires { IsRight said }
-    ensures { length result.now ≤ 1024 }
+    ensures { FitsCredential result }
 {
-    match said.key {
-        Some(key) => key,
-        None => "",
+    match said.credential {
+        Some(credential) => credential,
+        None => Credential::Key(""),
+    }
+}
+
+fn server_in<'a>(said: Said<'a>) -> Server<'a>
+    requires { IsRight said }
+    ensures { FitsServer result }
+{
+    Server {
+        port: port_in(said),
+        credential: credential_in(said),
     }
 }
 
@@ -122,11 +259,28 @@ fn asked<'a>(said: Said<'a>, bodies: &'a [String]) -> Command<'a>
     requires { IsRight said }
     ensures { Fits result }
 {
+    if said.table.is_some() {
+        return Command::Wrong { word: "--table" };
+    }
     Command::Ask {
-        port: port_in(said),
-        key: key_in(said),
+        server: server_in(said),
         bodies,
     }
+}
+
+// What is asked for by a command with a table, once all its options are said.
+fn on_table<'a>(verb: Verb, said: Said<'a>) -> Command<'a>
+    requires { IsRight said }
+    ensures { Fits result }
+{
+    let Some(table) = said.table else {
+        return Command::Untold;
+    };
+    let server = server_in(said);
+    if verb == Verb::Dump {
+        return Command::Dump { server, table };
+    }
+    Command::Restore { server, table }
 }
 
 // An option, its value, and the words behind it.
@@ -143,7 +297,7 @@ fn begins_with_dash(word: &str) -> bool {
     word.starts_with('-')
 }
 
-// What the words behind some options ask for.
+// What the words behind the options of `query` ask for.
 fn behind_options<'a>(said: Said<'a>, words: &'a [String]) -> Command<'a>
     requires { IsRight said }
     ensures { Fits result }
@@ -160,6 +314,20 @@ fn behind_options<'a>(said: Said<'a>, words: &'a [String]) -> Command<'a>
     lacking(word.as_str())
 }
 
+// What the words behind some options ask for.
+fn behind<'a>(verb: Verb, said: Said<'a>, words: &'a [String]) -> Command<'a>
+    requires { IsRight said }
+    ensures { Fits result }
+{
+    if verb == Verb::Query {
+        return behind_options(said, words);
+    }
+    match words.first() {
+        Some(word) => lacking(word.as_str()),
+        None => on_table(verb, said),
+    }
+}
+
 // Whether an option begins here, and not the bodies.
 fn begins_option(words: &[String]) -> bool {
     match words.first() {
@@ -168,17 +336,14 @@ fn begins_option(words: &[String]) -> bool {
     }
 }
 
-/// What the words ask for: `[--port P] [--key K] [--] [BODY..]`, the options in any order and each once, or `--help` or `-h` alone.
-/// `--port=P` is taken as `--port P`. It takes no memory.
-pub fn command_of(words: &[String]) -> Command<'_>
+// What the words behind a command ask for.
+fn options_of<'a>(verb: Verb, words: &'a [String]) -> Command<'a>
     ensures { Fits result }
 {
-    if is_help(words) {
-        return Command::Help;
-    }
     let mut said = Said {
         port: None,
-        key: None,
+        credential: None,
+        table: None,
     };
     let mut rest = words;
     for _ in 0..words.len() {
@@ -194,7 +359,16 @@ pub fn command_of(words: &[String]) -> Command<'_>
         }
         rest = behind;
     }
-    behind_options(said, rest)
+    behind(verb, said, rest)
+}
+
+fn verb_of(word: &str) -> Option<Verb> {
+    match word {
+        "query" => Some(Verb::Query),
+        "dump" => Some(Verb::Dump),
+        "restore" => Some(Verb::Restore),
+        _ => None,
+    }
 }
 
 fn is_help(words: &[String]) -> bool {
@@ -204,13 +378,36 @@ fn is_help(words: &[String]) -> bool {
     }
 }
 
-// The words end behind one that begins with a dash.
+/// What the words ask for: `query`, `dump` or `restore`, and behind it options in any order and each once, and of `query` then
+/// `[--] [BODY..]`; or `--help` or `-h` alone, or behind a command. `--port=P` is taken as `--port P`. It takes no memory.
+pub fn command_of(words: &[String]) -> Command<'_>
+    ensures { Fits result }
+{
+    if is_help(words) {
+        return Command::Help;
+    }
+    let Some((word, behind)) = words.split_first() else {
+        return Command::Untold;
+    };
+    if is_help(behind) {
+        return Command::Help;
+    }
+    match verb_of(word.as_str()) {
+        Some(verb) => options_of(verb, behind),
+        None => Command::Wrong {
+            word: word.as_str(),
+        },
+    }
+}
+
+// The words end behind one that begins with a dash, or it is one that can't stand there.
 fn lacking(word: &str) -> Command<'_>
     ensures { Fits result }
 {
-    if word == "--port" || word == "--key" {
-        Command::Missing { option: word }
-    } else {
-        Command::Wrong { word }
+    match word {
+        "--port" | "--table" | "--key" | "--password" | "--password-file" => {
+            Command::Missing { option: word }
+        }
+        _ => Command::Wrong { word },
     }
 }
