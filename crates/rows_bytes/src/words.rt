@@ -17,7 +17,7 @@ const LOADS: [(&[&str], &str); 10] = [
 ];
 
 // Words, and what they ask for, as `shown` says it.
-const CASES: [(&[&str], &str); 81] = [
+const CASES: [(&[&str], &str); 87] = [
     (&[], "a command is missing"),
     (&["--help"], "help"),
     (&["--help", "stdio"], "wrong `stdio`"),
@@ -34,7 +34,7 @@ const CASES: [(&[&str], &str); 81] = [
             "--sessions=3",
             "--password=p ~",
         ],
-        "listen 1 2 3 `a=b` `p ~` quiet a/b",
+        "listen 1 2 1024 3 `a=b` `p ~` quiet a/b",
     ),
     (&["listen", "--port="], "`` isn't 1 to 65535"),
     (&["listen", "--verbose=1"], "wrong `--verbose`"),
@@ -64,7 +64,7 @@ const CASES: [(&[&str], &str); 81] = [
     (&[""], "wrong ``"),
     (
         &["listen", "--port", "28015"],
-        "listen 28015 4 4294967295 ``",
+        "listen 28015 4 1024 4294967295 ``",
     ),
     (
         &[
@@ -82,16 +82,16 @@ const CASES: [(&[&str], &str); 81] = [
             "--port",
             "65535",
         ],
-        "listen 65535 64 4294967295 `k` b/z a/y",
+        "listen 65535 64 1024 4294967295 `k` b/z a/y",
     ),
     (
         &["listen", "--port", "1", "--workers", "1", "--sessions", "1"],
-        "listen 1 1 1 ``",
+        "listen 1 1 1024 1 ``",
     ),
-    (&["listen"], "listen 28015 4 4294967295 ``"),
+    (&["listen"], "listen 28015 4 1024 4294967295 ``"),
     (
         &["listen", "--workers", "2"],
-        "listen 28015 2 4294967295 ``",
+        "listen 28015 2 1024 4294967295 ``",
     ),
     (&["listen", "--port"], "a port is missing"),
     (&["listen", "--port", "1", "--port"], "wrong `--port`"),
@@ -105,6 +105,18 @@ const CASES: [(&[&str], &str); 81] = [
         &["listen", "--workers", "1", "--workers", "1"],
         "wrong `--workers`",
     ),
+    (
+        &["listen", "--clients", "4096"],
+        "listen 28015 4 4096 4294967295 ``",
+    ),
+    (&["listen", "--clients"], "a number of clients is missing"),
+    (
+        &["listen", "--clients", "1", "--clients", "1"],
+        "wrong `--clients`",
+    ),
+    (&["listen", "--clients", "0"], "`0` isn't 1 to 4096"),
+    (&["listen", "--clients", "4097"], "`4097` isn't 1 to 4096"),
+    (&["stdio", "--clients"], "wrong `--clients`"),
     (&["listen", "--sessions"], "a number of sessions is missing"),
     (
         &["listen", "--sessions", "1", "--sessions"],
@@ -200,6 +212,7 @@ fn missing(what: Wanted) -> &'static str {
         Wanted::PasswordFile => "a file is missing",
         Wanted::Port => "a port is missing",
         Wanted::Workers => "a number of workers is missing",
+        Wanted::Clients => "a number of clients is missing",
         Wanted::Sessions => "a number of sessions is missing",
         Wanted::Seed => "a seed is missing",
         Wanted::Size => "a size is missing",
@@ -240,13 +253,14 @@ fn shown(alloc: Global, command: &Command<'_>) -> Result<String, Fail> {
         Command::Listen {
             port,
             workers,
+            clients,
             sessions,
             key,
             password,
             quiet,
             tables,
         } => {
-            let text = format!(in alloc; "listen {port} {workers} {sessions} `{key}`")?;
+            let text = format!(in alloc; "listen {port} {workers} {clients} {sessions} `{key}`")?;
             let text = with_words(alloc, text, password, *quiet)?;
             with_tables(alloc, text, tables.as_slice())
         }
