@@ -41,7 +41,7 @@ Fits (command.NoPort word) = Unit {0}
 Fits (command.NoTable word) = Unit {0}
 Fits command.LongKey = Unit {0}
 Fits (command.Missing option) = Unit {0}
-Fits command.Untold = Unit {0}
+Fits (command.Untold wanted) = Unit {0}
 
 -- what was said so far is right
 abbrev pub IsRight : Said → Type 0

@@ -113,7 +113,7 @@ fn main(rt: HostRuntime) -> ExitCode {
         Command::NoTable { word } => say_no_table(voice, word),
         Command::LongKey => say_long_key(voice),
         Command::Missing { option } => say_missing(voice, option),
-        Command::Untold => say_untold(voice),
+        Command::Untold { wanted } => say_untold(voice, wanted),
     }
     ExitCode::from(WORDS)
 }

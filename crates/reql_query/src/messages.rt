@@ -39,9 +39,9 @@ pub fn say_no_table(voice: Voice, word: &str) {
 }
 
 /// Says that the words end too soon.
-pub fn say_untold(voice: Voice) {
+pub fn say_untold(voice: Voice, wanted: &str) {
     let Voice { rt, command } = voice;
-    let _ = eprintln!(rt; "reqld {command}: a table is missing; right would be: {RIGHT}");
+    let _ = eprintln!(rt; "reqld {command}: {wanted} is missing; right would be: {RIGHT}");
 }
 
 /// Says that a file gives no password, and nothing of what stands in it.

@@ -41,8 +41,10 @@ pub enum Command<'a> {
     Missing {
         option: &'a str,
     },
-    /// Nothing: a table is wanted, or a command.
-    Untold,
+    /// Nothing: the words end, and this is missing.
+    Untold {
+        wanted: &'a str,
+    },
 }
 
 /// A server at a port of 127.0.0.1, 1 to 65535, and how it is entered.
@@ -274,7 +276,7 @@ fn on_table<'a>(verb: Verb, said: Said<'a>) -> Command<'a>
     ensures { Fits result }
 {
     let Some(table) = said.table else {
-        return Command::Untold;
+        return Command::Untold { wanted: "a table" };
     };
     let server = server_in(said);
     if verb == Verb::Dump {
@@ -387,7 +389,9 @@ pub fn command_of(words: &[String]) -> Command<'_>
         return Command::Help;
     }
     let Some((word, behind)) = words.split_first() else {
-        return Command::Untold;
+        return Command::Untold {
+            wanted: "a command",
+        };
     };
     if is_help(behind) {
         return Command::Help;
