@@ -1,0 +1,7 @@
+mod Likes
+mod Changes
+mod Recovering
+mod Reading
+mod Leading
+mod Running
+mod Answering
