@@ -17,7 +17,7 @@ const LOADS: [(&[&str], &str); 10] = [
 ];
 
 // Words, and what they ask for, as `shown` says it.
-const CASES: [(&[&str], &str); 87] = [
+const CASES: [(&[&str], &str); 81] = [
     (&[], "a command is missing"),
     (&["--help"], "help"),
     (&["--help", "stdio"], "wrong `stdio`"),
@@ -105,18 +105,6 @@ const CASES: [(&[&str], &str); 87] = [
         &["listen", "--workers", "1", "--workers", "1"],
         "wrong `--workers`",
     ),
-    (
-        &["listen", "--clients", "4096"],
-        "listen 28015 4 4096 4294967295 ``",
-    ),
-    (&["listen", "--clients"], "a number of clients is missing"),
-    (
-        &["listen", "--clients", "1", "--clients", "1"],
-        "wrong `--clients`",
-    ),
-    (&["listen", "--clients", "0"], "`0` isn't 1 to 4096"),
-    (&["listen", "--clients", "4097"], "`4097` isn't 1 to 4096"),
-    (&["stdio", "--clients"], "wrong `--clients`"),
     (&["listen", "--sessions"], "a number of sessions is missing"),
     (
         &["listen", "--sessions", "1", "--sessions"],
@@ -321,6 +309,32 @@ fn words_ask_for_commands_within_their_limits(rt: HostRuntime) -> Result<(), Fai
         let (key, name) = (long(alloc, key)?, long(alloc, name)?);
         let words = many(alloc, &key, &name, tables)?;
         assert!(rt; asked(alloc, &words)?.starts_with(begins), "{begins}");
+    }
+    Ok(())
+}
+
+// Words that say how many clients are served at once, and what is asked for.
+const CLIENTS: [(&[&str], &str); 6] = [
+    (
+        &["listen", "--clients", "4096"],
+        "listen 28015 4 4096 4294967295 ``",
+    ),
+    (&["listen", "--clients"], "a number of clients is missing"),
+    (
+        &["listen", "--clients", "1", "--clients", "1"],
+        "wrong `--clients`",
+    ),
+    (&["listen", "--clients", "0"], "`0` isn't 1 to 4096"),
+    (&["listen", "--clients", "4097"], "`4097` isn't 1 to 4096"),
+    (&["stdio", "--clients"], "wrong `--clients`"),
+];
+
+#[test]
+fn words_say_how_many_clients_there_are(rt: HostRuntime) -> Result<(), Fail> {
+    let alloc = rt.alloc();
+    for (words, expected) in CLIENTS {
+        let words = list(alloc, words)?;
+        assert_eq!(rt; asked(alloc, &words)?.as_str(), expected);
     }
     Ok(())
 }
