@@ -1,6 +1,7 @@
 //! Operators by their rules: the choice among them.
 #![tactic(auto)]
 
+mod cost;
 mod firsts;
 mod kinds;
 mod operators;

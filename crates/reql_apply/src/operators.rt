@@ -7,6 +7,7 @@ ghost use Rattle.reql_operand.specs.Seen.{meant, all_shown, all_chosen};
 ghost use Rattle.reql_operand.specs.Tables.{seen};
 ghost use Rattle.reql_apply.specs.Kinds.{kind_rule, scalar_rule, array_rule, fields_rule, table_rule, sequence_rule, part_rule, groups_rule};
 
+use crate::cost::pay;
 use crate::firsts::{
     get_all_rule, group_rule, index_statuses_rule, order_by_rule, slice_rule, with_fields_rule,
 };
@@ -199,7 +200,7 @@ fn by_grouping<V: TableView, F: Fn(usize, &[Datum]) -> Result<Value, Fault>>(
 }
 
 /// An operator by the rule of its kind. Faults where the rule does; terms that are no operators on
-/// values are misplaced.
+/// values are misplaced. It is paid for before.
 pub fn apply<V: TableView, F: Fn(usize, &[Datum]) -> Result<Value, Fault>>(
     alloc: Global,
     kind: Kind,
@@ -213,6 +214,7 @@ pub fn apply<V: TableView, F: Fn(usize, &[Datum]) -> Result<Value, Fault>>(
         (calls : Calls) → Answers w F.Fn call.now calls → Gives (meant w) result
         (kind_rule kind w calls (all_shown w args.now) (all_chosen w opts.now)) }
 {
+    pay(alloc, kind, args, world)?;
     match kind {
         Kind::Scalar(op) => by_scalar(alloc, op, args, opts, world, call),
         Kind::OnArray(op) => by_array(alloc, op, args, opts),

@@ -20,8 +20,8 @@ ghost use Rattle.reql_apply_group.specs.Joined.{joined_by};
 use reql_apply_table::{documents_having, entries_source, index_or_key};
 use reql_datum::{Datum, Fault, Items, Name};
 use reql_operand::{
-    Arg, Choice, Value, Viewed, World, answer_key, answer_two, as_sequence, as_table, index_text,
-    like, misplaced,
+    Arg, Choice, Purse, Value, Viewed, World, answer_key, answer_two, as_sequence, as_table,
+    index_text, is_true, like, misplaced, paid,
 };
 use reql_term::TableView;
 use std::alloc::Global;
@@ -45,11 +45,29 @@ pub fn join<V: TableView, F: Fn(usize, &[Datum]) -> Result<Value, Fault>>(
         [left, right, f] => {
             let lefts = as_sequence(alloc, left, world)?;
             let rights = as_sequence(alloc, right, world)?;
-            let pairs = join_items(alloc, outer, &lefts, &rights, f, call)?;
+            let pairs = join_items(alloc, outer, &lefts, &rights, f, &world.purse, call)?;
             Ok(like(left, pairs))
         }
         _ => Err(Fault::QueryLogic(misplaced(alloc)?)),
     }
+}
+
+// What the function answers on a pair, which is paid for, and dearer where the pair is made.
+fn answer_paid<F: Fn(usize, &[Datum]) -> Result<Value, Fault>>(
+    alloc: Global,
+    f: &Arg,
+    left: &Datum,
+    right: &Datum,
+    purse: &Purse,
+    call: &F,
+) -> Result<Datum, Fault>
+    requires { F.IsAlwaysCallable call.now }
+    ensures { (w : Seen) (calls : Calls) → Answers w F.Fn call.now calls
+        → Gives plain result (answer_two_of calls (shown w f.now) (plain left.now) (plain right.now)) }
+{
+    let answer = answer_two(alloc, f, left, right, call)?;
+    purse.spend(if is_true(&answer) { 20 } else { 2 })?;
+    Ok(answer)
 }
 
 fn join_items<F: Fn(usize, &[Datum]) -> Result<Value, Fault>>(
@@ -58,6 +76,7 @@ fn join_items<F: Fn(usize, &[Datum]) -> Result<Value, Fault>>(
     lefts: &Items,
     rights: &Items,
     f: &Arg,
+    purse: &Purse,
     call: &F,
 ) -> Result<Items, Fault>
     requires { F.IsAlwaysCallable call.now }
@@ -71,7 +90,7 @@ fn join_items<F: Fn(usize, &[Datum]) -> Result<Value, Fault>>(
         rights,
         &|l: &Datum, r: &Datum|
             requires { F.IsAlwaysCallable call.now }
-        { answer_two(alloc, f, l, r, call) },
+        { answer_paid(alloc, f, l, r, purse, call) },
         outer,
     )
 }
@@ -96,7 +115,7 @@ pub fn eq_join<V: TableView, F: Fn(usize, &[Datum]) -> Result<Value, Fault>>(
             let table = as_table(alloc, right, world)?;
             let named = index_text(alloc, opts)?;
             let name = index_or_key(table, named);
-            let pairs = join_by_name(alloc, &lefts, key, table, name, call)?;
+            let pairs = join_by_name(alloc, &lefts, key, table, name, &world.purse, call)?;
             Ok(like(source, pairs))
         }
         _ => Err(Fault::QueryLogic(misplaced(alloc)?)),
@@ -109,6 +128,7 @@ fn join_by_name<V: TableView, F: Fn(usize, &[Datum]) -> Result<Value, Fault>>(
     key: &Arg,
     table: &Viewed<V>,
     name: &Name,
+    purse: &Purse,
     call: &F,
 ) -> Result<Items, Fault>
     requires { F.IsAlwaysCallable call.now }
@@ -118,7 +138,7 @@ fn join_by_name<V: TableView, F: Fn(usize, &[Datum]) -> Result<Value, Fault>>(
         (shown w key.now) lefts.now) }
 {
     let _index = entries_source(alloc, table, name)?;
-    join_entries(alloc, lefts, key, table, name, call)
+    join_entries(alloc, lefts, key, table, name, purse, call)
 }
 
 fn join_entries<V: TableView, F: Fn(usize, &[Datum]) -> Result<Value, Fault>>(
@@ -127,6 +147,7 @@ fn join_entries<V: TableView, F: Fn(usize, &[Datum]) -> Result<Value, Fault>>(
     key: &Arg,
     table: &Viewed<V>,
     name: &Name,
+    purse: &Purse,
     call: &F,
 ) -> Result<Items, Fault>
     requires { F.IsAlwaysCallable call.now }
@@ -141,7 +162,7 @@ fn join_entries<V: TableView, F: Fn(usize, &[Datum]) -> Result<Value, Fault>>(
         lefts,
         key,
         call,
-        &|k: &Datum| having(alloc, table, name, k),
+        &|k: &Datum| having(alloc, table, name, k, purse),
     )
 }
 
@@ -166,12 +187,14 @@ fn join_keyed<
     )
 }
 
-// The documents of the entries that have a key, by an index of a name.
+// The documents of the entries that have a key, by an index of a name, which are paid for with their
+// pairs.
 fn having<V: TableView>(
     alloc: Global,
     table: &Viewed<V>,
     name: &Name,
     key: &Datum,
+    purse: &Purse,
 ) -> Result<Items, Fault>
     ensures { Gives (λ items. items) result
         (having_named (view V.documents V.indexes V.entries table.now) name.now
@@ -179,7 +202,8 @@ fn having<V: TableView>(
 {
     let mut keys = Items::new(alloc);
     keys.push(key.copy()?)?;
-    documents_having(alloc, table, name, &keys)
+    let found = documents_having(alloc, table, name, &keys)?;
+    Ok(paid(purse, found, 20)?)
 }
 
 /// ZIP: the left side of each pair merged with its right side.

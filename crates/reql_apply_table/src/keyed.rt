@@ -12,13 +12,13 @@ ghost use Rattle.reql_value_spec.specs.Tables.{key_if, get_rule, get_all_rule};
 ghost use Rattle.reql_value_spec.specs.World.{World as Seen};
 ghost use Rattle.reql_operand.specs.Seen.{meant, shown, all_shown, all_chosen};
 ghost use Rattle.reql_operand.specs.Tables.{view, seen};
-ghost use Rattle.reql_apply_table.specs.Sources.{row_at, rows_at, rows_by as rows_by_of};
+ghost use Rattle.reql_apply_table.specs.Sources.{having, row_at, rows_at, rows_by as rows_by_of};
 
-use crate::sources::{documents_having, index_or_key};
-use reql_datum::{Datum, Fault, Items, Memory};
+use crate::sources::{documents_having, foreseen, index_or_key};
+use reql_datum::{Datum, Fault, Items, Memory, Name};
 use reql_operand::{
     Arg, Choice, Rows, Value, Viewed, World, as_data, as_datum, as_table, index_text, misplaced,
-    not_a_key,
+    not_a_key, paid,
 };
 use reql_term::TableView;
 use std::alloc::Global;
@@ -96,9 +96,26 @@ fn as_keys(alloc: Global, keys: Items) -> Result<Items, Fault>
     Ok(keys)
 }
 
+// The documents that have each of the keys, by an index of a name, which are paid for.
+fn documents_by<V: TableView>(
+    alloc: Global,
+    world: &World<V>,
+    table: &Viewed<V>,
+    name: &Name,
+    keys: &Items,
+) -> Result<Items, Fault>
+    ensures { Gives (λ items. items) result
+        (having (view V.documents V.indexes V.entries table.now) name.now keys.now) }
+{
+    world.purse.spend(foreseen(table, name, keys))?;
+    let found = documents_having(alloc, table, name, keys)?;
+    Ok(paid(&world.purse, found, 1)?)
+}
+
 // The rows that have each of the keys, by the index that is asked for.
 fn rows_by<V: TableView>(
     alloc: Global,
+    world: &World<V>,
     table: &Viewed<V>,
     values: Items,
     opts: &[Choice],
@@ -108,7 +125,7 @@ fn rows_by<V: TableView>(
 {
     let keys = as_keys(alloc, values)?;
     let named = index_text(alloc, opts)?;
-    let list = documents_having(alloc, table, index_or_key(table, named), &keys)?;
+    let list = documents_by(alloc, world, table, index_or_key(table, named), &keys)?;
     Ok(Value::Selection {
         slot: table.slot,
         rows: Rows::InSequence,
@@ -118,6 +135,7 @@ fn rows_by<V: TableView>(
 
 fn rows_in<V: TableView>(
     alloc: Global,
+    world: &World<V>,
     table: &Viewed<V>,
     args: &[Arg],
     opts: &[Choice],
@@ -127,7 +145,7 @@ fn rows_in<V: TableView>(
         (all_chosen w opts.now)) }
 {
     let values = as_data(alloc, args)?;
-    rows_by(alloc, table, values, opts)
+    rows_by(alloc, world, table, values, opts)
 }
 
 /// GET_ALL: the rows of a table that have each of the keys, by the primary key or by an index.
@@ -143,5 +161,5 @@ pub fn get_all<V: TableView>(
         (get_all_rule w calls (shown w table.now ∷ all_shown w keys.now) (all_chosen w opts.now)) }
 {
     let found = as_table(alloc, table, world)?;
-    rows_in(alloc, found, keys, opts)
+    rows_in(alloc, world, found, keys, opts)
 }

@@ -13,7 +13,7 @@ ghost use Rattle.reql_apply_table.specs.Sources.{entries_at, entries_beside, hav
 
 use reql_datum::{Datum, Fault, Items, Memory, Name};
 use reql_operand::{Arg, Viewed, World, as_table, no_index, same_text, whole_range};
-use reql_term::{Entries, TableView, ViewFault};
+use reql_term::{Bound, Entries, Range, TableView, ViewFault};
 use std::alloc::Global;
 
 /// The table, as an argument, which is then the one in its slot.
@@ -115,6 +115,46 @@ pub(crate) fn copy_name(name: Option<&Name>) -> Result<Option<Name>, Memory>
         Some(text) => Ok(Some(text.copy()?)),
         None => Ok(None),
     }
+}
+
+// How many entries of an index have a key; none is told where there is no memory to ask.
+fn entries_at_key<V: TableView>(
+    table: &Viewed<V>,
+    name: &Name,
+    key: &Datum,
+) -> Result<u64, Memory> {
+    let range = Range {
+        index: Some(name.copy()?),
+        low: Bound {
+            value: key.copy()?,
+            is_open: false,
+        },
+        high: Bound {
+            value: key.copy()?,
+            is_open: false,
+        },
+        down: false,
+    };
+    match table.view.count_between(&range) {
+        Ok(count) => Ok(count),
+        Err(_) => Ok(0),
+    }
+}
+
+/// How many documents there are to read, in units of a purse, where a secondary index is asked for
+/// several keys: each may be that of any number of them, and stand there any number of times. It is 0
+/// where there can't be more than the table has.
+pub(crate) fn foreseen<V: TableView>(table: &Viewed<V>, name: &Name, keys: &Items) -> u64 {
+    if keys.len() < 2 || same_text(name.as_str(), table.key.as_str()) {
+        return 0;
+    }
+    let mut sum: u64 = 0;
+    for key in keys.as_slice() {
+        if let Ok(count) = entries_at_key(table, name, key) {
+            sum = sum.saturating_add(count);
+        }
+    }
+    sum
 }
 
 /// The documents of the entries that have each of the keys, by an index of a name.

@@ -42,6 +42,7 @@ pub(crate) fn eval_term<V: TableView>(
     ensures { let w = seen V.documents V.indexes V.entries world.now in
         Gives (meant w) result (value (sense (form_of term.now)) w (bound vars.now)) }
 {
+    world.purse.spend(2)?;
     match term {
         Term::Lit(d) => Ok(Value::One(d.copy()?)),
         Term::Arr(terms) => eval_array(alloc, terms.as_slice(), world, vars),
@@ -67,7 +68,7 @@ fn eval_simply<V: TableView>(
     ensures { let w = seen V.documents V.indexes V.entries world.now in
         Gives (meant w) result (value (sense (form_of term.now)) w (bound vars.now)) }
 {
-    match found(term, world.array_limit, vars) {
+    match found(term, world.array_limit, &world.purse, vars) {
         Some(x) => Ok(Value::One(x.to_datum()?)),
         None => eval_term(alloc, term, world, vars),
     }
@@ -85,6 +86,7 @@ fn eval_array<V: TableView>(
         Gives (meant w) result
         (strict (array make_array) (listed terms.now) [] w (bound vars.now)) }
 {
+    world.purse.spend((terms.len() as u64).saturating_mul(4))?;
     let none = TermFields::new(alloc);
     let kind = Kind::Scalar(Scalar::MakeArray);
     eval_all(alloc, Way::Strict, kind, terms, &none, world, vars)
@@ -101,7 +103,7 @@ fn eval_object<V: TableView>(
     ensures { let w = seen V.documents V.indexes V.entries world.now in
         Gives (meant w) result (make_object (optional fields.now) w (bound vars.now)) }
 {
-    match object_found(alloc, fields, world.array_limit, vars) {
+    match object_found(alloc, fields, world.array_limit, &world.purse, vars) {
         Some(result) => result,
         None => {
             let choices = eval_options(alloc, Way::Strict, fields, world, vars)?;
@@ -500,6 +502,7 @@ fn call_body<V: TableView>(
         Gives (meant w) result
         (called ids.now (sense (form_of body.now)) w (bound vars.now) (map plain values.now)) }
 {
+    world.purse.spend(6)?;
     if ids.len() == values.len() {
         let inner = Vars::Frame {
             ids,

@@ -13,7 +13,7 @@ ghost use Rattle.reql_eval.specs.Taken.{out_of_order as out_of_order_of};
 use reql_datum::Fault;
 use reql_operand::{Value, World, misplaced_order, sized, table_at};
 use reql_term::TableView;
-use reql_term_analysis::{Vars, find, implicit};
+use reql_term_analysis::{Vars, find, implicit, reach};
 use std::alloc::Global;
 
 /// The value of a variable, within the limits.
@@ -26,6 +26,7 @@ pub(crate) fn variable<V: TableView>(
     ensures { let w = seen V.documents V.indexes V.entries world.now in
         Gives (meant w) result (bound_to (variable_at id) w (bound vars.now)) }
 {
+    world.purse.spend(reach(vars))?;
     let d = find(alloc, id, vars)?;
     sized(alloc, world.array_limit, Value::One(d))
 }
@@ -39,6 +40,7 @@ pub(crate) fn parameter<V: TableView>(
     ensures { let w = seen V.documents V.indexes V.entries world.now in
         Gives (meant w) result (bound_to implicit_at w (bound vars.now)) }
 {
+    world.purse.spend(reach(vars))?;
     let d = implicit(alloc, vars)?;
     sized(alloc, world.array_limit, Value::One(d))
 }

@@ -20,7 +20,7 @@ use reql_bag::in_order;
 use reql_datum::{Datum, Fault, Items, Memory, Name};
 use reql_eval::eval;
 use reql_feed_read::RangeShape;
-use reql_operand::{Viewed, World, to_sequence};
+use reql_operand::{Purse, STAGE, Viewed, World, to_sequence};
 use reql_table::{Change, Prepared, Table};
 use reql_term::Body;
 use reql_term_analysis::Vars;
@@ -95,6 +95,7 @@ fn world_of(alloc: Global, viewed: Viewed<Table>) -> Result<World<Table>, Memory
         tables,
         databases: Vec::new(alloc),
         array_limit: 100_000,
+        purse: Purse::new(STAGE),
     })
 }
 

@@ -17,7 +17,7 @@ ghost use Rattle.reql_term.specs.View.{form_of};
 use crate::free::{Scope, is_free};
 use reql_datum::{Datum, Fault, Memory};
 use reql_eval::eval;
-use reql_operand::{World, into_datum};
+use reql_operand::{Purse, STAGE, World, into_datum};
 use reql_table::Table;
 use reql_table_spec::FeedSpec;
 use reql_term::{Op, Term, TermFields, Terms};
@@ -41,6 +41,7 @@ pub(crate) fn nothing(alloc: Global) -> World<Table>
         tables: Vec::new(alloc),
         databases: Vec::new(alloc),
         array_limit: 100_000,
+        purse: Purse::new(STAGE),
     }
 }
 

@@ -12,6 +12,7 @@ ghost use Rattle.reql_value_spec.specs.Index.{entries as entries_of, entries_of_
 
 use reql_datum::{Datum, Fault, Items, Memory};
 use reql_eval::function_datum;
+use reql_operand::{Purse, STAGE};
 use reql_seq::distinct;
 use reql_term::{IndexDef, TableView};
 use std::alloc::Global;
@@ -28,7 +29,8 @@ pub fn entries<V: TableView + Drop>(
 ) -> Result<Items, Memory>
     ensures { IfOk result (λ es. es ≡ entries_of (index_of def.now) (plain doc.now)) }
 {
-    let answer = function_datum::<V>(alloc, def.func.term(), slice::from_ref(doc));
+    let purse = Purse::new(STAGE);
+    let answer = function_datum::<V>(alloc, def.func.term(), slice::from_ref(doc), &purse);
     of_answer(alloc, def.multi, &answer)
 }
 

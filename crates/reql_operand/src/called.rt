@@ -4,6 +4,7 @@ ghost use Rattle.reql_datum.specs.View.{plain};
 ghost use Rattle.std.specs.Prelude.{◌≡◌, map};
 ghost use Rattle.reql_value_spec.specs.Called.{answer as answer_of, answer_datum as answer_datum_of, answer_one as answer_one_of, answer_two as answer_two_of, answer_items as answer_items_of, answer_key as answer_key_of, passes as passes_of, answer_test as answer_test_of, constant_key as constant_key_of, gives_pattern as gives_pattern_of, judged as judged_of};
 ghost use Rattle.reql_value_spec.specs.Meant.{Calls, meant_of};
+ghost use Rattle.reql_value_spec.specs.Wanted.{to_sequence as to_sequence_of, as_sequence as as_sequence_of};
 ghost use Rattle.reql_value_spec.specs.World.{World as Seen};
 ghost use Rattle.reql_operand.specs.Called.{Answers};
 ghost use Rattle.reql_operand.specs.Seen.{meant, shown};
@@ -12,12 +13,13 @@ ghost use Rattle.reql_operand.specs.Tables.{seen};
 use crate::copying::copy_value;
 use crate::field::get_field;
 use crate::matching::{fits, is_same};
+use crate::purse::paid;
 use crate::reading::{as_sequence, to_sequence};
 use crate::scalars::is_true;
 use crate::value::{Arg, Value};
 use crate::wanted::{as_datum, into_datum, text_in_arg};
 use crate::world::World;
-use reql_datum::{Datum, Fault};
+use reql_datum::{Datum, Fault, Items};
 use reql_term::TableView;
 use std::alloc::Global;
 use std::slice;
@@ -96,7 +98,25 @@ pub fn answer_two<F: Fn(usize, &[Datum]) -> Result<Value, Fault>>(
     }
 }
 
-/// The sequence that a function answers on a value, or the constant, as an array.
+// The elements that are to be joined to others, which are paid for.
+fn to_joined<V: TableView>(alloc: Global, value: &Value, world: &World<V>) -> Result<Items, Fault>
+    ensures { let w = seen V.documents V.indexes V.entries world.now in
+        Gives (λ items. items) result (to_sequence_of w (meant w value.now)) }
+{
+    let items = to_sequence(alloc, value, world)?;
+    Ok(paid(&world.purse, items, 3)?)
+}
+
+// The same, as an argument.
+fn as_joined<V: TableView>(alloc: Global, arg: &Arg, world: &World<V>) -> Result<Items, Fault>
+    ensures { let w = seen V.documents V.indexes V.entries world.now in
+        Gives (λ items. items) result (as_sequence_of w (shown w arg.now)) }
+{
+    let items = as_sequence(alloc, arg, world)?;
+    Ok(paid(&world.purse, items, 3)?)
+}
+
+/// The sequence that a function answers on a value, or the constant, as an array, which is paid for.
 pub fn answer_items<V: TableView, F: Fn(usize, &[Datum]) -> Result<Value, Fault>>(
     alloc: Global,
     arg: &Arg,
@@ -112,10 +132,10 @@ pub fn answer_items<V: TableView, F: Fn(usize, &[Datum]) -> Result<Value, Fault>
     match arg {
         Arg::Function(function) => {
             let value = call(function.at, slice::from_ref(d))?;
-            let items = to_sequence(alloc, &value, world)?;
+            let items = to_joined(alloc, &value, world)?;
             Ok(Datum::List(items))
         }
-        _ => Ok(Datum::List(as_sequence(alloc, arg, world)?)),
+        _ => Ok(Datum::List(as_joined(alloc, arg, world)?)),
     }
 }
 

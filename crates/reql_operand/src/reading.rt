@@ -10,6 +10,7 @@ ghost use Rattle.reql_value_spec.specs.World.{World as Seen};
 ghost use Rattle.reql_operand.specs.Tables.{view, seen};
 
 use crate::counted::count_range;
+use crate::purse::paid;
 use crate::texts::type_text;
 use crate::value::{Arg, Slice, Value};
 use crate::wanted::{no_value, wrong};
@@ -18,20 +19,32 @@ use reql_datum::{Datum, Fault, Items};
 use reql_term::{Range, TableView, ViewFault};
 use std::alloc::Global;
 
+// Each document that is read is paid for.
+
 /// The documents of a table, rising by key.
-fn all_documents<V: TableView>(alloc: Global, table: &Viewed<V>) -> Result<Items, Fault>
+fn all_documents<V: TableView>(
+    alloc: Global,
+    world: &World<V>,
+    table: &Viewed<V>,
+) -> Result<Items, Fault>
     ensures { Gives (λ items. items) result (Ok (map (λ m. m.1) (V.documents table.now.view))) }
 {
-    Ok(table.view.scan(alloc)?)
+    let items = table.view.scan(alloc)?;
+    Ok(paid(&world.purse, items, 1)?)
 }
 
 /// The documents of a range of a table.
-fn in_range<V: TableView>(alloc: Global, table: &Viewed<V>, range: &Range) -> Result<Items, Fault>
+fn in_range<V: TableView>(
+    alloc: Global,
+    world: &World<V>,
+    table: &Viewed<V>,
+    range: &Range,
+) -> Result<Items, Fault>
     ensures { Gives (λ items. items) result
         (Ok (documents_of_view range.now (Ok (view V.documents V.indexes V.entries table.now)))) }
 {
     match table.view.between(alloc, range) {
-        Ok(items) => Ok(items),
+        Ok(items) => Ok(paid(&world.purse, items, 1)?),
         Err(ViewFault::IndexMissing) => Ok(Items::new(alloc)),
         Err(ViewFault::Memory) => Err(Fault::Memory),
     }
@@ -48,7 +61,7 @@ fn read_range<V: TableView>(
         (Ok (documents_at (seen V.documents V.indexes V.entries world.now) slot range.now)) }
 {
     match table_at(alloc, world, slot) {
-        Ok(table) => in_range(alloc, table, range),
+        Ok(table) => in_range(alloc, world, table, range),
         Err(Fault::Memory) => Err(Fault::Memory),
         Err(_) => Ok(Items::new(alloc)),
     }
@@ -56,6 +69,7 @@ fn read_range<V: TableView>(
 
 fn part_in_range<V: TableView>(
     alloc: Global,
+    world: &World<V>,
     table: &Viewed<V>,
     range: &Range,
     from: usize,
@@ -65,7 +79,7 @@ fn part_in_range<V: TableView>(
         (documents_of_view range.now (Ok (view V.documents V.indexes V.entries table.now)))))) }
 {
     match table.view.part(alloc, range, from, most) {
-        Ok(items) => Ok(items),
+        Ok(items) => Ok(paid(&world.purse, items, 1)?),
         Err(ViewFault::IndexMissing) => Ok(Items::new(alloc)),
         Err(ViewFault::Memory) => Err(Fault::Memory),
     }
@@ -85,7 +99,7 @@ pub fn read_part<V: TableView>(
         (documents_at (seen V.documents V.indexes V.entries world.now) slot range.now)))) }
 {
     match table_at(alloc, world, slot) {
-        Ok(table) => part_in_range(alloc, table, range, from, most),
+        Ok(table) => part_in_range(alloc, world, table, range, from, most),
         Err(Fault::Memory) => Err(Fault::Memory),
         Err(_) => Ok(Items::new(alloc)),
     }
@@ -169,7 +183,7 @@ pub fn to_sequence<V: TableView>(
             list,
         } => Ok(list.copy()?),
         Value::Unread { slot, slice, range } => read_slice(alloc, world, *slot, slice, range),
-        Value::Table(slot) => all_documents(alloc, table_at(alloc, world, *slot)?),
+        Value::Table(slot) => all_documents(alloc, world, table_at(alloc, world, *slot)?),
         _ => no_sequence(alloc, value),
     }
 }

@@ -4,6 +4,7 @@ ghost use Rattle.reql_datum.specs.Outcome.{Gives};
 ghost use Rattle.reql_value_spec.specs.World.{view_at};
 ghost use Rattle.reql_operand.specs.Tables.{view, seen};
 
+use crate::purse::Purse;
 use crate::texts::misplaced;
 use reql_datum::{Fault, Name};
 use reql_term::TableView;
@@ -27,12 +28,13 @@ pub struct Database {
     pub number: u64,
 }
 
-/// The tables and databases that a request reads, and its limit of arrays.
+/// The tables and databases that a request reads, its limit of arrays, and what it may still spend.
 #[derive(Drop)]
 pub struct World<V> {
     pub tables: Vec<Viewed<V>>,
     pub databases: Vec<Database>,
     pub array_limit: u64,
+    pub purse: Purse,
 }
 
 /// The table in a slot.

@@ -9,7 +9,7 @@ ghost use Rattle.reql_plan_context.specs.Seen.{read, held};
 
 use reql_catalog::{Database as Found, Names};
 use reql_datum::{Memory, Name, Point, Seq};
-use reql_operand::{Database, Viewed, World};
+use reql_operand::{BUDGET, Database, Purse, Viewed, World};
 use reql_plan_results::{key_field, names_of};
 use reql_plan_spec::{Plan, Setting};
 use reql_term::TableView;
@@ -158,6 +158,7 @@ pub fn hold<V: TableView + Drop>(
             tables: snapshots.tables,
             databases,
             array_limit: plan.array_limit,
+            purse: Purse::new(BUDGET),
         },
         points: snapshots.points,
         setting,

@@ -25,6 +25,7 @@ use Rattle.reql_catalog.specs.contracts.names.Names as names
 use Rattle.reql_catalog.proofs.names.Names.TheSendSync as names_cross
 use Rattle.reql_catalog.specs.contracts.command.CatCmd as cat_cmd
 use Rattle.reql_operand.specs.contracts.world.World as world
+use Rattle.reql_operand.specs.contracts.purse.Purse as purse
 use Rattle.reql_operand.specs.contracts.world.Viewed as viewed
 use Rattle.reql_operand.specs.contracts.world.Database as database
 use Rattle.reql_plan_context.specs.contracts.holding.Held as held
@@ -123,12 +124,15 @@ refusal_send = search (sendable, crosses, name_send) depth 20
 database_send : IsSend database.the_row
 database_send = search (sendable, crosses, name_send) depth 20
 
+purse_send : IsSend purse.the_row
+purse_send = search (sendable, crosses) depth 20
+
 module _ (V : RattleType) where
   viewed_send : IsSend V → IsSend (viewed.the_row V)
   viewed_send v = search (sendable, crosses, name_send) depth 20
 
   world_send : IsSend V → IsSend (world.the_row V)
-  world_send v = let d = viewed_send v in search (sendable, crosses, database_send) depth 20
+  world_send v = let d = viewed_send v in search (sendable, crosses, database_send, purse_send) depth 20
 
   read_send : IsSend V → IsSend (read.the_field V).row
   read_send v = let d = viewed_send v in search (sendable, crosses) depth 20

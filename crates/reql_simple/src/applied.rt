@@ -10,6 +10,7 @@ ghost use Rattle.reql_simple.specs.declared.roles.Role.TheVariants.{Comparison, 
 use crate::lying::Found;
 use crate::of_two::{field_of, reckoned, related};
 use crate::roles::Role;
+use reql_operand::Purse;
 use reql_rules::{Arith, Relate};
 
 /// Whether OR, where it is at true, or AND ends here.
@@ -44,6 +45,24 @@ pub(crate) fn by_two<'a>(role: Role, limit: u64, x: &Found<'a>, y: &Found) -> Op
         Role::Arithmetic(op) => arithmetic(op, x, y),
         _ => None,
     }
+}
+
+/// The same, which is paid for: no more is looked at of two than the lesser has.
+pub(crate) fn by_two_for<'a>(
+    purse: &Purse,
+    role: Role,
+    limit: u64,
+    x: &Found<'a>,
+    y: &Found,
+) -> Option<Found<'a>>
+    ensures { IfSome result (λ z. (vars : Frames) (s t : Sense)
+        → Stands limit s vars (document x.now) → Stands limit t vars (document y.now)
+        → Stands limit (role_sense role (s ∷ t ∷ [])) vars (document z)) }
+{
+    let Ok(()) = purse.spend(x.size().min(y.size())) else {
+        return None;
+    };
+    by_two(role, limit, x, y)
 }
 
 fn comparison<'a>(op: Relate, x: &Found<'a>, y: &Found) -> Option<Found<'a>>

@@ -7,7 +7,7 @@ ghost use Rattle.reql_rules.specs.Types.{truth};
 ghost use Rattle.reql_simple.specs.Found.{document};
 
 use reql_datum::{Datum, Memory, Whole};
-use reql_operand::is_true;
+use reql_operand::{is_true, size_of};
 
 /// What a simple term stands for: a document where it lies, or a truth or a number that was made.
 #[derive(Drop)]
@@ -26,6 +26,15 @@ impl<'a> Found<'a> {
             Found::Lying(d) => Ok(d.copy()?),
             Found::Truth(b) => Ok(Datum::Bool(*b)),
             Found::Number(n) => Ok(Datum::Num(*n)),
+        }
+    }
+
+    /// How much it has, in units of a purse.
+    pub(crate) fn size(&self) -> u64 {
+        match self {
+            Found::Lying(d) => size_of(d),
+            Found::Truth(_) => 1,
+            Found::Number(_) => 1,
         }
     }
 

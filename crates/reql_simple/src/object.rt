@@ -18,13 +18,14 @@ ghost use Rattle.reql_simple.specs.Stands.{Stands};
 use crate::roles::role_of;
 use crate::terms::found;
 use reql_datum::{Datum, Fault, Fields, Memory, Name};
-use reql_operand::{Value, sized};
+use reql_operand::{Purse, Value, sized};
 use reql_term::{Term, TermFields};
 use reql_term_analysis::Vars;
 use std::alloc::Global;
 
 /// The object of what terms by name give, where what each stands for is found. Where there is a
-/// fault in one, or anything else than a simple term, it is None, which says nothing of the object.
+/// fault in one, or anything else than a simple term, it is None, which says nothing of the object; so it
+/// is where the purse is empty.
 ///
 /// It takes the memory of the object alone, which it gives back where it is None, and none where a
 /// term is of a kind that no simple term is of.
@@ -32,15 +33,19 @@ pub fn object_found(
     alloc: Global,
     terms: &TermFields,
     limit: u64,
+    purse: &Purse,
     vars: &Vars,
 ) -> Option<Result<Value, Fault>>
     ensures { IfSome result (λ r. (w : Seen) → w.array_limit ≡ limit
         → Gives (meant w) r (make_object (optional terms.now) w (bound vars.now))) }
 {
+    let Ok(()) = purse.spend(terms.len() as u64 / 16) else {
+        return None;
+    };
     if !all_seem_simple(terms) {
         return None;
     }
-    match members_found(alloc, terms, limit, vars) {
+    match members_found(alloc, terms, limit, purse, vars) {
         Ok(found) => object_within(alloc, limit, found),
         Err(_) => Some(Err(Fault::Memory)),
     }
@@ -73,6 +78,7 @@ fn members_found(
     alloc: Global,
     terms: &TermFields,
     limit: u64,
+    purse: &Purse,
     vars: &Vars,
 ) -> Result<Option<Fields>, Memory>
     ensures { IfOk result (λ o. IfSome o (λ ms. Made limit terms.now (bound vars.now) ms)) }
@@ -80,7 +86,7 @@ fn members_found(
     let mut members = Fields::with_room(alloc, terms.len())?;
     let mut place = 0;
     while let Some((name, term)) = terms.at(place) {
-        let Some(d) = datum_found(term, limit, vars)? else {
+        let Some(d) = datum_found(term, limit, purse, vars)? else {
             return Ok(None);
         };
         put_copy(&mut members, name, d)?;
@@ -90,11 +96,11 @@ fn members_found(
 }
 
 // A copy of what a term stands for, where that is found.
-fn datum_found(term: &Term, limit: u64, vars: &Vars) -> Result<Option<Datum>, Memory>
+fn datum_found(term: &Term, limit: u64, purse: &Purse, vars: &Vars) -> Result<Option<Datum>, Memory>
     ensures { IfOk result (λ o. IfSome o (λ d.
         Stands limit (sense (form_of term.now)) (bound vars.now) (plain d))) }
 {
-    match found(term, limit, vars) {
+    match found(term, limit, purse, vars) {
         Some(x) => Ok(Some(x.to_datum()?)),
         None => Ok(None),
     }

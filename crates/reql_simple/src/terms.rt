@@ -9,45 +9,57 @@ ghost use Rattle.reql_term_analysis.specs.Bound.{bound, listed, optional};
 ghost use Rattle.reql_simple.specs.Found.{document};
 ghost use Rattle.reql_simple.specs.Stands.{Stands, role_sense};
 
-use crate::applied::{by_one, by_two, stops};
+use crate::applied::{by_one, by_two_for, stops};
 use crate::lying::{Found, kept, within};
 use crate::roles::{Role, role_of};
+use reql_operand::Purse;
 use reql_term::{Op, Term, TermFields};
-use reql_term_analysis::{Vars, is_fit, lookup, lookup_implicit};
+use reql_term_analysis::{Vars, is_fit, lookup, lookup_implicit, reach};
 
 /// What a term stands for, where that is found: literals and variables, fields of these, and
 /// comparisons, arithmetic, AND, OR and NOT of one or two such terms. Where there is a fault, or
-/// anything else, it is None, which says nothing of the term.
+/// anything else, it is None, which says nothing of the term; so it is where the purse is empty.
 ///
-/// It looks at each part of the term once, and takes no memory.
+/// It looks at each part of the term once, for which it pays, and takes no memory.
 #[cycle(found)]
-pub fn found<'a>(term: &'a Term, limit: u64, vars: &'a Vars<'a>) -> Option<Found<'a>>
+pub fn found<'a>(term: &'a Term, limit: u64, purse: &Purse, vars: &'a Vars<'a>) -> Option<Found<'a>>
     ensures { IfSome result (λ x.
         Stands limit (sense (form_of term.now)) (bound vars.now) (document x)) }
 {
+    let Ok(()) = purse.spend(1) else {
+        return None;
+    };
     match term {
         Term::Lit(d) => Some(Found::Lying(d)),
-        Term::Var(id) => variable(*id, limit, vars),
-        Term::Row => parameter(limit, vars),
-        Term::Op { op, args, opts } => of_operator(*op, args.as_slice(), opts, limit, vars),
+        Term::Var(id) => variable(*id, limit, purse, vars),
+        Term::Row => parameter(limit, purse, vars),
+        Term::Op { op, args, opts } => {
+            of_operator(*op, args.as_slice(), opts, limit, purse, vars)
+        }
         _ => None,
     }
 }
 
-fn variable<'a>(id: u64, limit: u64, vars: &'a Vars<'a>) -> Option<Found<'a>>
+fn variable<'a>(id: u64, limit: u64, purse: &Purse, vars: &'a Vars<'a>) -> Option<Found<'a>>
     ensures { IfSome result (λ x.
         Stands limit (plain (bound_to (variable_at id))) (bound vars.now) (document x)) }
 {
+    let Ok(()) = purse.spend(reach(vars)) else {
+        return None;
+    };
     match lookup(id, vars) {
         Some(d) => within(limit, d),
         None => None,
     }
 }
 
-fn parameter<'a>(limit: u64, vars: &'a Vars<'a>) -> Option<Found<'a>>
+fn parameter<'a>(limit: u64, purse: &Purse, vars: &'a Vars<'a>) -> Option<Found<'a>>
     ensures { IfSome result (λ x.
         Stands limit (plain (bound_to implicit_at)) (bound vars.now) (document x)) }
 {
+    let Ok(()) = purse.spend(reach(vars)) else {
+        return None;
+    };
     match lookup_implicit(vars) {
         Some(d) => within(limit, d),
         None => None,
@@ -61,6 +73,7 @@ fn of_operator<'a>(
     terms: &'a [Term],
     opts: &TermFields,
     limit: u64,
+    purse: &Purse,
     vars: &'a Vars<'a>,
 ) -> Option<Found<'a>>
     ensures { IfSome result (λ x. Stands limit
@@ -70,29 +83,41 @@ fn of_operator<'a>(
         return None;
     }
     match role_of(op) {
-        Some(role) => by_role(role, terms, limit, vars),
+        Some(role) => by_role(role, terms, limit, purse, vars),
         None => None,
     }
 }
 
 #[cycle(found)]
-fn by_role<'a>(role: Role, terms: &'a [Term], limit: u64, vars: &'a Vars<'a>) -> Option<Found<'a>>
+fn by_role<'a>(
+    role: Role,
+    terms: &'a [Term],
+    limit: u64,
+    purse: &Purse,
+    vars: &'a Vars<'a>,
+) -> Option<Found<'a>>
     ensures { IfSome result (λ x. Stands limit
         (role_sense role (listed terms.now)) (bound vars.now) (document x)) }
 {
     match terms {
-        [only] => of_one(role, only, limit, vars),
-        [first, second] => of_two(role, first, second, limit, vars),
+        [only] => of_one(role, only, limit, purse, vars),
+        [first, second] => of_two(role, first, second, limit, purse, vars),
         _ => None,
     }
 }
 
 #[cycle(found)]
-fn of_one<'a>(role: Role, term: &'a Term, limit: u64, vars: &'a Vars<'a>) -> Option<Found<'a>>
+fn of_one<'a>(
+    role: Role,
+    term: &'a Term,
+    limit: u64,
+    purse: &Purse,
+    vars: &'a Vars<'a>,
+) -> Option<Found<'a>>
     ensures { IfSome result (λ x. Stands limit
         (role_sense role (sense (form_of term.now) ∷ [])) (bound vars.now) (document x)) }
 {
-    match found(term, limit, vars) {
+    match found(term, limit, purse, vars) {
         Some(x) => by_one(role, &x),
         None => None,
     }
@@ -104,18 +129,19 @@ fn of_two<'a>(
     first: &'a Term,
     second: &'a Term,
     limit: u64,
+    purse: &Purse,
     vars: &'a Vars<'a>,
 ) -> Option<Found<'a>>
     ensures { IfSome result (λ x. Stands limit
         (role_sense role (sense (form_of first.now) ∷ sense (form_of second.now) ∷ []))
         (bound vars.now) (document x)) }
 {
-    let Some(x) = found(first, limit, vars) else {
+    let Some(x) = found(first, limit, purse, vars) else {
         return None;
     };
     match role {
-        Role::Chain(at) => chain(at, &x, second, limit, vars),
-        _ => with_second(role, &x, second, limit, vars),
+        Role::Chain(at) => chain(at, &x, second, limit, purse, vars),
+        _ => with_second(role, &x, second, limit, purse, vars),
     }
 }
 
@@ -126,6 +152,7 @@ fn chain<'a>(
     x: &Found<'a>,
     second: &'a Term,
     limit: u64,
+    purse: &Purse,
     vars: &'a Vars<'a>,
 ) -> Option<Found<'a>>
     ensures { IfSome result (λ z. (s : Sense) → Stands limit s (bound vars.now) (document x.now)
@@ -135,7 +162,7 @@ fn chain<'a>(
     if stops(at, x) {
         return kept(limit, x);
     }
-    match found(second, limit, vars) {
+    match found(second, limit, purse, vars) {
         Some(y) => kept(limit, &y),
         None => None,
     }
@@ -148,14 +175,15 @@ fn with_second<'a>(
     x: &Found<'a>,
     second: &'a Term,
     limit: u64,
+    purse: &Purse,
     vars: &'a Vars<'a>,
 ) -> Option<Found<'a>>
     ensures { IfSome result (λ z. (s : Sense) → Stands limit s (bound vars.now) (document x.now)
         → Stands limit (role_sense role (s ∷ sense (form_of second.now) ∷ []))
         (bound vars.now) (document z)) }
 {
-    match found(second, limit, vars) {
-        Some(y) => by_two(role, limit, x, &y),
+    match found(second, limit, purse, vars) {
+        Some(y) => by_two_for(purse, role, limit, x, &y),
         None => None,
     }
 }

@@ -14,4 +14,4 @@ pub use answers::{
 };
 pub use kinds::{callee, direction, function_in, is_fit, raising, shape};
 pub use object::object_of;
-pub use vars::{Vars, find, implicit, lookup, lookup_implicit};
+pub use vars::{Vars, find, implicit, lookup, lookup_implicit, reach};

@@ -24,6 +24,15 @@ pub enum Vars<'a> {
     },
 }
 
+/// What a search for a variable costs, in units of a purse: one for so many parameters of the functions
+/// around.
+pub fn reach(vars: &Vars) -> u64 {
+    match vars {
+        Vars::Empty => 0,
+        Vars::Frame { ids, values: _, up } => (ids.len() as u64 / 32).saturating_add(reach(up)),
+    }
+}
+
 /// The value of a variable where it lies, if one of that id is bound.
 pub fn lookup<'a>(id: u64, vars: &'a Vars<'a>) -> Option<&'a Datum>
     ensures { MatchOption result (variable_at id (bound vars.now) ≡ Err misplaced)

@@ -11,6 +11,7 @@ use crate::storing::keeping_stored;
 use crate::treated::{Treated, or_failed};
 use reql_datum::{Datum, Fault, Memory, Name};
 use reql_eval::function_datum;
+use reql_operand::{Purse, size_of};
 use reql_path::merge;
 use reql_table::Table;
 use reql_term::Body;
@@ -18,16 +19,36 @@ use std::alloc::Global;
 use std::slice;
 
 // What a change gives of a document, or of null.
-fn given_by(alloc: Global, change: &Body, old: Option<&Datum>) -> Result<Datum, Fault>
+fn given_by(
+    alloc: Global,
+    change: &Body,
+    old: Option<&Datum>,
+    purse: &Purse,
+) -> Result<Datum, Fault>
     ensures { Gives plain result (given_by_of change.now
         (option_map (λ d. plain d.now) old.entry)) }
 {
     match old {
         Some(document) => {
-            function_datum::<Table>(alloc, change.term(), slice::from_ref(document))
+            function_datum::<Table>(alloc, change.term(), slice::from_ref(document), purse)
         }
-        None => function_datum::<Table>(alloc, change.term(), &[Datum::Null]),
+        None => function_datum::<Table>(alloc, change.term(), &[Datum::Null], purse),
     }
+}
+
+// The same, with what it costs to store it.
+fn given_to_store(
+    alloc: Global,
+    change: &Body,
+    old: Option<&Datum>,
+    purse: &Purse,
+) -> Result<Datum, Fault>
+    ensures { Gives plain result (given_by_of change.now
+        (option_map (λ d. plain d.now) old.entry)) }
+{
+    let given = given_by(alloc, change, old, purse)?;
+    purse.spend(size_of(&given))?;
+    Ok(given)
 }
 
 // A document merged with what a change gives of it.
@@ -37,10 +58,11 @@ fn updated(
     change: &Body,
     key: &Datum,
     old: &Datum,
+    purse: &Purse,
 ) -> Result<Treated, Fault>
     ensures { Gives seen result (update_of field.now change.now (plain key.now) (plain old.now)) }
 {
-    let given = given_by(alloc, change, Some(old))?;
+    let given = given_to_store(alloc, change, Some(old), purse)?;
     let _members = as_object(alloc, &given)?;
     let new = merge(alloc, old, &given)?;
     keeping_stored(alloc, field, key, new, Some(old))
@@ -53,6 +75,7 @@ pub(crate) fn update(
     change: &Body,
     key: &Datum,
     old: Option<&Datum>,
+    purse: &Purse,
 ) -> Result<Treated, Memory>
     ensures { IfOk result (λ t. seen t ≡ updating_of field.now change.now (plain key.now)
         (option_map (λ d. plain d.now) old.entry)) }
@@ -60,7 +83,7 @@ pub(crate) fn update(
     match old {
         None => Ok(Treated::Skipped),
         Some(there) => {
-            let found = updated(alloc, field, change, key, there);
+            let found = updated(alloc, field, change, key, there, purse);
             or_failed(alloc, found, Some(there))
         }
     }
@@ -106,11 +129,12 @@ fn replaced(
     change: &Body,
     key: &Datum,
     old: Option<&Datum>,
+    purse: &Purse,
 ) -> Result<Treated, Fault>
     ensures { Gives seen result (replace_of field.now change.now (plain key.now)
         (option_map (λ d. plain d.now) old.entry)) }
 {
-    let given = given_by(alloc, change, old)?;
+    let given = given_to_store(alloc, change, old, purse)?;
     replaced_by(alloc, field, given, key, old)
 }
 
@@ -121,10 +145,11 @@ pub(crate) fn replace(
     change: &Body,
     key: &Datum,
     old: Option<&Datum>,
+    purse: &Purse,
 ) -> Result<Treated, Memory>
     ensures { IfOk result (λ t. seen t ≡ replacing_of field.now change.now (plain key.now)
         (option_map (λ d. plain d.now) old.entry)) }
 {
-    let found = replaced(alloc, field, change, key, old);
+    let found = replaced(alloc, field, change, key, old, purse);
     or_failed(alloc, found, old)
 }

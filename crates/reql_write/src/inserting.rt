@@ -10,7 +10,7 @@ use crate::storing::keeping_stored;
 use crate::texts::duplicate;
 use crate::treated::{Treated, failed, or_failed};
 use reql_datum::{Datum, Fault, Memory, Name};
-use reql_operand::{misplaced, not_a_key};
+use reql_operand::{Purse, misplaced, not_a_key, size_of};
 use reql_path::merge;
 use reql_ptree::{Steps, Tree};
 use reql_write_spec::Conflict;
@@ -82,10 +82,12 @@ pub(crate) fn insert(
     conflict: Conflict,
     document: &Datum,
     documents: &Tree,
+    purse: &Purse,
 ) -> Result<Treated, Memory>
     ensures { IfOk result (λ t. seen t ≡ inserting_of field.now conflict documents.now
         (plain document.now)) }
 {
+    purse.spend(size_of(document))?;
     match key_of(alloc, field, document) {
         Ok(key) => {
             let mut steps = Steps::start();

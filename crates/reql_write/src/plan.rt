@@ -17,6 +17,7 @@ use crate::selecting::selected;
 use crate::treated::{Treated, text_of};
 use crate::treating::treat_all;
 use reql_datum::{Fault, Items, Memory};
+use reql_operand::{BUDGET, Purse};
 use reql_ptree::Tree;
 use reql_table::Table;
 use reql_write_spec::{Act, Change, Summary, WriteCmd};
@@ -34,7 +35,7 @@ pub struct Planned {
 }
 
 // The documents that are inserted, or the primary keys of the rows.
-fn items_of(alloc: Global, table: &Table, cmd: &WriteCmd) -> Result<Items, Fault>
+fn items_of(alloc: Global, table: &Table, cmd: &WriteCmd, purse: &Purse) -> Result<Items, Fault>
     ensures { Gives (λ items. items) result (items_treated cmd.now.key (documents_of table.now)
         (indexes_of table.now) cmd.now.act) }
 {
@@ -44,9 +45,9 @@ fn items_of(alloc: Global, table: &Table, cmd: &WriteCmd) -> Result<Items, Fault
             conflict: _,
             made,
         } => Ok(keyed(alloc, &cmd.key, docs, made)?),
-        Act::Update { rows, change: _ } => selected(alloc, table, &cmd.key, rows),
-        Act::Replace { rows, change: _ } => selected(alloc, table, &cmd.key, rows),
-        Act::Delete { rows } => selected(alloc, table, &cmd.key, rows),
+        Act::Update { rows, change: _ } => selected(alloc, table, &cmd.key, rows, purse),
+        Act::Replace { rows, change: _ } => selected(alloc, table, &cmd.key, rows, purse),
+        Act::Delete { rows } => selected(alloc, table, &cmd.key, rows, purse),
     }
 }
 
@@ -65,8 +66,9 @@ fn treat(
     ensures alone { IfOk result (λ r. r.1 ≡ None
         → length (joined (map changes_of (map seen r.0.items))) ≤ 1) }
 {
-    let items = items_of(alloc, table, cmd)?;
-    let all = treat_all(alloc, &cmd.key, &cmd.act, &items, table.tree())?;
+    let purse = Purse::new(BUDGET);
+    let items = items_of(alloc, table, cmd, &purse)?;
+    let all = treat_all(alloc, &cmd.key, &cmd.act, &items, table.tree(), &purse)?;
     Ok(all)
 }
 

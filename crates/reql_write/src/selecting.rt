@@ -11,7 +11,7 @@ use crate::selection::keys_of_value;
 use crate::slots::{is_chain, slots};
 use reql_datum::{Fault, Items, Memory, Name};
 use reql_eval::eval;
-use reql_operand::{Viewed, World};
+use reql_operand::{Purse, Viewed, World};
 use reql_table::Table;
 use reql_term::{Body, Term};
 use reql_term_analysis::Vars;
@@ -33,7 +33,13 @@ fn selected_slot(alloc: Global, term: &Term) -> Result<Option<u32>, Memory>
 }
 
 // The table as its own rows are read.
-fn own_world(alloc: Global, table: &Table, field: &Name, slot: u32) -> Result<World<Table>, Memory>
+fn own_world(
+    alloc: Global,
+    table: &Table,
+    field: &Name,
+    slot: u32,
+    left: u64,
+) -> Result<World<Table>, Memory>
     ensures { IfOk result (λ w. seen_world documents_of indexes_of entries_at w
         ≡ world_of field.now (documents_of table.now) (indexes_of table.now) (slot ∷ [])) }
 {
@@ -50,23 +56,44 @@ fn own_world(alloc: Global, table: &Table, field: &Name, slot: u32) -> Result<Wo
         tables,
         databases: Vec::new(alloc),
         array_limit: 100_000,
+        purse: Purse::new(left),
     })
 }
 
-// The primary keys of the rows that a term selects of the table in a slot.
+// The primary keys of the rows that a term selects in the world of the table in a slot.
+fn keys_in(
+    alloc: Global,
+    table: &Table,
+    field: &Name,
+    term: &Term,
+    slot: u32,
+    world: &World<Table>,
+) -> Result<Items, Fault>
+    ensures { seen_world documents_of indexes_of entries_at world.now
+        ≡ world_of field.now (documents_of table.now) (indexes_of table.now) (slot ∷ [])
+        → Gives (λ items. items) result (selected_at field.now (documents_of table.now)
+        (indexes_of table.now) (slot ∷ []) (form_of term.now)) }
+{
+    let value = eval(alloc, term, world, &Vars::Empty)?;
+    keys_of_value(alloc, table, field, world, &value)
+}
+
+// The primary keys of the rows that a term selects of the table in a slot, which are paid for.
 fn keys_at(
     alloc: Global,
     table: &Table,
     field: &Name,
     term: &Term,
     slot: u32,
+    purse: &Purse,
 ) -> Result<Items, Fault>
     ensures { Gives (λ items. items) result (selected_at field.now (documents_of table.now)
         (indexes_of table.now) (slot ∷ []) (form_of term.now)) }
 {
-    let world = own_world(alloc, table, field, slot)?;
-    let value = eval(alloc, term, &world, &Vars::Empty)?;
-    keys_of_value(alloc, table, field, &world, &value)
+    let world = own_world(alloc, table, field, slot, purse.left())?;
+    let keys = keys_in(alloc, table, field, term, slot, &world);
+    purse.settle(&world.purse);
+    keys
 }
 
 /// The primary keys of the rows, or the fault in evaluating them. What is no selection of a table
@@ -77,6 +104,7 @@ pub(crate) fn selected(
     table: &Table,
     field: &Name,
     rows: &Body,
+    purse: &Purse,
 ) -> Result<Items, Fault>
     ensures { Gives (λ items. items) result (selected_of field.now (documents_of table.now)
         (indexes_of table.now) rows.now) }
@@ -84,6 +112,6 @@ pub(crate) fn selected(
     let term = rows.term();
     match selected_slot(alloc, term)? {
         None => Ok(Items::new(alloc)),
-        Some(slot) => keys_at(alloc, table, field, term, slot),
+        Some(slot) => keys_at(alloc, table, field, term, slot, purse),
     }
 }

@@ -13,6 +13,7 @@ use crate::changing::{delete, replace, update};
 use crate::inserting::insert;
 use crate::treated::Treated;
 use reql_datum::{Datum, Items, Memory, Name};
+use reql_operand::Purse;
 use reql_ptree::{Steps, Tree};
 use reql_write_spec::Act;
 use std::alloc::Global;
@@ -32,6 +33,7 @@ fn treat(
     act: &Act,
     item: &Datum,
     documents: &Tree,
+    purse: &Purse,
 ) -> Result<Treated, Memory>
     ensures { IfOk result (λ t. seen t ≡ treating field.now act.now documents.now
         (plain item.now)) }
@@ -41,12 +43,12 @@ fn treat(
             docs: _,
             conflict,
             made: _,
-        } => insert(alloc, field, *conflict, item, documents),
+        } => insert(alloc, field, *conflict, item, documents, purse),
         Act::Update { rows: _, change } => {
-            update(alloc, field, change, item, at(documents, item))
+            update(alloc, field, change, item, at(documents, item), purse)
         }
         Act::Replace { rows: _, change } => {
-            replace(alloc, field, change, item, at(documents, item))
+            replace(alloc, field, change, item, at(documents, item), purse)
         }
         Act::Delete { rows: _ } => delete(item, at(documents, item)),
     }
@@ -93,11 +95,12 @@ fn treat_one(
     act: &Act,
     item: &Datum,
     documents: &Tree,
+    purse: &Purse,
 ) -> Result<Vec<Treated>, Memory>
     ensures { IfOk result (λ all. map seen all.items ≡ treating field.now act.now documents.now
         (plain item.now) ∷ []) }
 {
-    let treated = treat(alloc, field, act, item, documents)?;
+    let treated = treat(alloc, field, act, item, documents, purse)?;
     let mut all = Vec::with_capacity(alloc, 1)?;
     all.push(treated)?;
     Ok(all)
@@ -111,6 +114,7 @@ pub(crate) fn treat_all(
     act: &Act,
     items: &Items,
     start: &Tree,
+    purse: &Purse,
 ) -> Result<(Vec<Treated>, Option<Tree>), Memory>
     ensures treated { IfOk result (λ r. map seen r.0.items
         ≡ treat_all_of (treating field.now act.now) start.now items.now) }
@@ -120,9 +124,9 @@ pub(crate) fn treat_all(
         → length (joined (map changes_of (map seen r.0.items))) ≤ 1) }
 {
     if let (Some(item), None) = (items.at(0), items.at(1)) {
-        return Ok((treat_one(alloc, field, act, item, start)?, None));
+        return Ok((treat_one(alloc, field, act, item, start, purse)?, None));
     }
-    let (all, documents) = treat_more(alloc, field, act, items, start)?;
+    let (all, documents) = treat_more(alloc, field, act, items, start, purse)?;
     Ok((all, Some(documents)))
 }
 
@@ -134,6 +138,7 @@ fn treat_more(
     act: &Act,
     items: &Items,
     start: &Tree,
+    purse: &Purse,
 ) -> Result<(Vec<Treated>, Tree), Memory>
     ensures treated { IfOk result (λ r. map seen r.0.items
         ≡ treat_all_of (treating field.now act.now) start.now items.now) }
@@ -144,7 +149,7 @@ fn treat_more(
     let mut all = Vec::new(alloc);
     let mut place = 0;
     while let Some(item) = items.at(place) {
-        let treated = treat(alloc, field, act, item, &documents)?;
+        let treated = treat(alloc, field, act, item, &documents, purse)?;
         turn(&mut documents, &treated)?;
         all.push(treated)?;
         place += 1;
