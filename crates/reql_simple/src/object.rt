@@ -39,9 +39,9 @@ pub fn object_found(
     ensures { IfSome result (λ r. (w : Seen) → w.array_limit ≡ limit
         → Gives (meant w) r (make_object (optional terms.now) w (bound vars.now))) }
 {
-    let Ok(()) = purse.spend(terms.len() as u64 / 16) else {
+    if !pays(purse, terms.len() as u64 / 16) {
         return None;
-    };
+    }
     if !all_seem_simple(terms) {
         return None;
     }
@@ -49,6 +49,11 @@ pub fn object_found(
         Ok(found) => object_within(alloc, limit, found),
         Err(_) => Some(Err(Fault::Memory)),
     }
+}
+
+// Whether so much could be paid, which is gone from the purse then.
+fn pays(purse: &Purse, cost: u64) -> bool {
+    purse.spend(cost).is_ok()
 }
 
 // Whether each term is of a kind that simple terms are of, which decides only what is tried.
